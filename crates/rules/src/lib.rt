@@ -1,0 +1,1 @@
+// The rules of document 01: definitions in specs/, theorems in proofs/, no code.
