@@ -1,1 +1,5 @@
 pub mod Examples
+pub mod Bools
+pub mod Bounded
+pub mod Reading
+pub mod Accepted

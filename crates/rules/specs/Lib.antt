@@ -2,6 +2,7 @@
 pub mod Bounded
 pub mod Table
 pub mod Reading
+pub mod Accepted
 pub mod Preemption
 pub mod Locks
 pub mod Races
