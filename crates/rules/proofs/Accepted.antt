@@ -10,7 +10,7 @@ use lib.Dec.{leb, ltb}
 use lib.ListN.{length}
 use borrow.Author.Tests.{eqb-true, eqb-false, ne-eqb, leb-true, ltb-true}
 use Rattle.rules.specs.Table.{Tree, Table, task, blocking, mask, isTask, isScheduler, isChild}
-use Rattle.rules.specs.Reading.{Counts, Fine, Is, countsOf, tableAt, tableOf, firstFault, formSection, nodeSection, lockSection, resourceSection, accessSection, endSection, countCheck, nodeFault, lockFault, accessFault, parentRight, coveredRight, byte, read}
+use Rattle.rules.specs.Reading.{Counts, Fine, Is, countsOf, tableAt, tableOf, firstFault, formSection, nodeSection, lockSection, resourceSection, accessSection, endSection, countCheck, nodeCheck, lockCheck, accessCheck, nodeFault, lockFault, accessFault, parentRight, coveredRight, byte, read}
 use Rattle.rules.specs.Accepted.{Rooted, Accepted}
 use Rattle.rules.proofs.Bools.{and-left, and-right, not-true}
 use Rattle.rules.proofs.Reading.{then-left, then-right, unless-fine, each-fine, read-fine, read-table}
@@ -100,15 +100,15 @@ module _ (t : Table) (i : ℕ) (e : accessFault t i ≡ Fine) where
 -- The records of the sections.
 module _ (b : List ℕ) (e : firstFault b ≡ Fine) where
   each-node : (n : ℕ) → n < tableOf b .tree .nodes → nodeFault (tableOf b .tree) n ≡ Fine
-  unfolding nodeSection tableOf tableAt
+  unfolding nodeSection nodeCheck tableOf tableAt
   each-node n h = then-right _ _ (each-fine _ _ (then-right _ _ (nodes-fine b e)) n h)
 
   each-lock : (k : ℕ) → k < tableOf b .locks → lockFault (tableOf b) k ≡ Fine
-  unfolding lockSection tableOf tableAt
+  unfolding lockSection lockCheck tableOf tableAt
   each-lock k h = then-right _ _ (each-fine _ _ (then-right _ _ (locks-fine b e)) k h)
 
   each-access : (i : ℕ) → i < tableOf b .accesses → accessFault (tableOf b) i ≡ Fine
-  unfolding accessSection tableOf tableAt
+  unfolding accessSection accessCheck tableOf tableAt
   each-access i h = then-right _ _ (each-fine _ _ (then-right _ _ (accesses-fine b e)) i h)
 
   nodes-within : (1 ≤ tableOf b .tree .nodes) × (tableOf b .tree .nodes ≤ 128)

@@ -7,7 +7,7 @@ use mathlib.Core.List.{List, [], _∷_, _++_}
 use lib.ListN.{length, take, set}
 use Rattle.rules.specs.Bounded.{Pair, allBelow, someBelow, row, pairs, bytesOf}
 use Rattle.rules.specs.Table.{isTask, isScheduler, isChild}
-use Rattle.rules.specs.Reading.{Reading, Is, Refused, read, concluded, firstFault, formSection, nodeSection, lockSection, resourceSection, accessSection, endSection, countCheck, nodeFault, lockFault, accessFault, countsIn, parentRight, coveredRight, due, each, unless, _andThen_, tableOf, countsOf, tableAt}
+use Rattle.rules.specs.Reading.{Reading, Is, Refused, read, concluded, firstFault, formSection, nodeSection, lockSection, resourceSection, accessSection, endSection, countCheck, nodeCheck, lockCheck, resourceCheck, accessCheck, nodeFault, lockFault, accessFault, countsIn, parentRight, coveredRight, due, each, unless, _andThen_, tableOf, countsOf, tableAt}
 use Rattle.rules.specs.Preemption.{climbsTo, atOrBelow, isAncestor, nearestAbove, nearestCommon, climbsUnder, childAbove, allows, mayPreempt}
 use Rattle.rules.specs.Locks.{inSet, covers, masked, blocked}
 use Rattle.rules.specs.Races.{race, illegal, races, illegals}
@@ -29,7 +29,7 @@ tableV = 1 ∷ 8 ∷ 0 ∷ 1 ∷ 0 ∷ 3 ∷ 0 ∷ 0 ∷ 0 ∷ 2 ∷ 1 ∷ 0 ∷
 
 -- To unfold one of these is to unfold all that it takes to read, to list, to number and to run.
 toRead : List ℕ → Reading
-unfolding tableW tableV read concluded firstFault formSection nodeSection lockSection resourceSection accessSection endSection countCheck nodeFault lockFault accessFault countsIn parentRight coveredRight due each unless _andThen_ tableOf countsOf tableAt isTask isScheduler isChild
+unfolding tableW tableV read concluded firstFault formSection nodeSection lockSection resourceSection accessSection endSection countCheck nodeCheck lockCheck resourceCheck accessCheck nodeFault lockFault accessFault countsIn parentRight coveredRight due each unless _andThen_ tableOf countsOf tableAt isTask isScheduler isChild
 toRead b = read b
 
 toList : List ℕ → List ℕ → Left

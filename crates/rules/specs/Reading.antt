@@ -171,26 +171,34 @@ unfoldable pub countCheck : List ℕ → ℕ → ℕ → ℕ → Check
 countCheck b p least most =
     due b (p + 1) andThen unless (leb least (byte b p) && leb (byte b p) most) 3 p
 
--- Each section: its count, and then its records. Each record is complete before its fields are tested.
+-- Each record is complete before its fields are tested. A resource's label may have any value.
+unfoldable pub nodeCheck : Counts → List ℕ → ℕ → Check
+nodeCheck c b n = due b (nodeAt n + 2) andThen nodeFault (tableAt c b .tree) n
+
+unfoldable pub lockCheck : Counts → List ℕ → ℕ → Check
+lockCheck c b k = due b (lockAt c k + 3) andThen lockFault (tableAt c b) k
+
+unfoldable pub resourceCheck : Counts → List ℕ → ℕ → Check
+resourceCheck c b r = due b (resourceAt c r + 2)
+
+unfoldable pub accessCheck : Counts → List ℕ → ℕ → Check
+accessCheck c b i = due b (accessAt c i + 6) andThen accessFault (tableAt c b) i
+
+-- Each section: its count, and then its records.
 unfoldable pub nodeSection : Counts → List ℕ → Check
-nodeSection c b =
-    countCheck b nodesAt 1 maxNodes
-    andThen each (c .nodes) (λ n. due b (nodeAt n + 2) andThen nodeFault ((tableAt c b) .tree) n)
+nodeSection c b = countCheck b nodesAt 1 maxNodes andThen each (c .nodes) (nodeCheck c b)
 
 unfoldable pub lockSection : Counts → List ℕ → Check
-lockSection c b =
-    countCheck b (locksAt (c .nodes)) 0 maxLocks
-    andThen each (c .locks) (λ k. due b (lockAt c k + 3) andThen lockFault (tableAt c b) k)
+lockSection c b = countCheck b (locksAt (c .nodes)) 0 maxLocks andThen each (c .locks) (lockCheck c b)
 
 unfoldable pub resourceSection : Counts → List ℕ → Check
 resourceSection c b =
-    countCheck b (resourcesAt (c .nodes) (c .locks)) 0 maxResources
-    andThen each (c .resources) (λ r. due b (resourceAt c r + 2))
+    countCheck b (resourcesAt (c .nodes) (c .locks)) 0 maxResources andThen each (c .resources) (resourceCheck c b)
 
 unfoldable pub accessSection : Counts → List ℕ → Check
 accessSection c b =
     countCheck b (accessesAt (c .nodes) (c .locks) (c .resources)) 0 maxAccesses
-    andThen each (c .accesses) (λ i. due b (accessAt c i + 6) andThen accessFault (tableAt c b) i)
+    andThen each (c .accesses) (accessCheck c b)
 
 -- 11: bytes follow the last access.
 unfoldable pub endSection : Counts → List ℕ → Check

@@ -1,0 +1,4 @@
+pub mod Laws
+pub mod Shown
+pub mod SectionLaws
+pub mod Chain
