@@ -10,7 +10,7 @@ pub fn wide(x: u8) -> usize
 }
 
 // The byte at p, or 0 past the end.
-pub fn byte_at(s: &[u8], p: usize) -> u8
+pub(crate) fn byte_at(s: &[u8], p: usize) -> u8
     ensures { λ r. ⌜ r ≡ byte (now (s .entry)) p ⌝ }
 {
     if p < s.len() {
@@ -19,14 +19,14 @@ pub fn byte_at(s: &[u8], p: usize) -> u8
     0
 }
 
-pub fn number_at(s: &[u8], p: usize) -> usize
+pub(crate) fn number_at(s: &[u8], p: usize) -> usize
     ensures { λ r. ⌜ (r ≡ byte (now (s .entry)) p) × (r < 256) ⌝ }
 {
     wide(byte_at(s, p))
 }
 
 // The two-byte number at p, high byte first.
-pub fn pair_at(s: &[u8], p: usize) -> usize
+pub(crate) fn pair_at(s: &[u8], p: usize) -> usize
     requires { ⌜ p < 65536 ⌝ }
     ensures { λ r. ⌜ (r ≡ twoBytes (now (s .entry)) p) × (r < 65536) ⌝ }
 {

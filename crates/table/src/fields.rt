@@ -10,39 +10,39 @@ ghost use Rattle.rules.specs.Reading.{locksAt, resourcesAt, accessesAt, lockAt,
 ghost use Rattle.table.specs.Answers.{counts, shown};
 
 impl Table {
-    pub fn locks_at(self) -> usize
+    pub(crate) fn locks_at(self) -> usize
         ensures { λ r. ⌜ r ≡ locksAt (self .nodes) ⌝ }
     {
         2 + wide(self.nodes) * 2
     }
 
-    pub fn resources_at(self) -> usize
+    pub(crate) fn resources_at(self) -> usize
         ensures { λ r. ⌜ r ≡ resourcesAt (self .nodes) (self .locks) ⌝ }
     {
         self.locks_at() + 1 + wide(self.locks) * 3
     }
 
-    pub fn accesses_at(self) -> usize
+    pub(crate) fn accesses_at(self) -> usize
         ensures { λ r. ⌜ r ≡ accessesAt (self .nodes) (self .locks) (self .resources) ⌝ }
     {
         self.resources_at() + 1 + wide(self.resources) * 2
     }
 
-    pub fn lock_at(self, k: usize) -> usize
+    pub(crate) fn lock_at(self, k: usize) -> usize
         requires { ⌜ k < 256 ⌝ }
         ensures { λ r. ⌜ r ≡ lockAt (counts self) k ⌝ }
     {
         self.locks_at() + 1 + k * 3
     }
 
-    pub fn resource_at(self, r: usize) -> usize
+    pub(crate) fn resource_at(self, r: usize) -> usize
         requires { ⌜ r < 256 ⌝ }
         ensures { λ p. ⌜ p ≡ resourceAt (counts self) r ⌝ }
     {
         self.resources_at() + 1 + r * 2
     }
 
-    pub fn access_at(self, i: usize) -> usize
+    pub(crate) fn access_at(self, i: usize) -> usize
         requires { ⌜ i < 256 ⌝ }
         ensures { λ r. ⌜ r ≡ accessAt (counts self) i ⌝ }
     {

@@ -1,5 +1,5 @@
 // Tables, form 1: limits, kind numbers, faults, the fields of a record, and the reader. The only room that knows where a byte stands.
-mod bytes;
+pub mod bytes;
 mod fields;
 mod records;
 mod sections;

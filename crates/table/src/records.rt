@@ -11,7 +11,7 @@ ghost use Rattle.rules.specs.Reading.{countCheck, parentRight, coveredRight, no
 ghost use Rattle.table.specs.Answers.{counts, shown, checked};
 
 // The count at p stands there and lies within its limits.
-pub fn check_count(s: &[u8], p: usize, least: u8, most: u8) -> Check
+pub(crate) fn check_count(s: &[u8], p: usize, least: u8, most: u8) -> Check
     requires { ⌜ p < 65536 ⌝ }
     ensures { λ r. ⌜ checked r ≡ countCheck (now (s .entry)) p least most ⌝ }
 {
@@ -29,7 +29,7 @@ pub fn check_count(s: &[u8], p: usize, least: u8, most: u8) -> Check
 }
 
 // A set has no bit k or above.
-pub fn set_within(set: u32, k: u8) -> bool
+pub(crate) fn set_within(set: u32, k: u8) -> bool
     ensures { λ r. ⌜ r ≡ ltb set (2 ^ k) ⌝ }
 {
     if 32 <= k {
@@ -96,7 +96,7 @@ impl Table {
         self.is_child(s, self.provider(s, k), c)
     }
 
-    pub fn check_node(self, s: &[u8], n: usize) -> Check
+    pub(crate) fn check_node(self, s: &[u8], n: usize) -> Check
         requires { ⌜ n < 256 ⌝ }
         ensures { λ r. ⌜ checked r ≡ nodeCheck (counts self) (now (s .entry)) n ⌝ }
     {
@@ -113,7 +113,7 @@ impl Table {
         Check::Fine
     }
 
-    pub fn check_lock(self, s: &[u8], k: usize) -> Check
+    pub(crate) fn check_lock(self, s: &[u8], k: usize) -> Check
         requires { ⌜ k < 256 ⌝ }
         ensures { λ r. ⌜ checked r ≡ lockCheck (counts self) (now (s .entry)) k ⌝ }
     {
@@ -133,7 +133,7 @@ impl Table {
         Check::Fine
     }
 
-    pub fn check_access(self, s: &[u8], i: usize) -> Check
+    pub(crate) fn check_access(self, s: &[u8], i: usize) -> Check
         requires { ⌜ i < 256 ⌝ }
         ensures { λ r. ⌜ checked r ≡ accessCheck (counts self) (now (s .entry)) i ⌝ }
     {

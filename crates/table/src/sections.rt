@@ -12,7 +12,7 @@ ghost use Rattle.table.specs.Answers.{counts, shown, told};
 
 impl Table {
     // The counts that stand in the bytes, each where those before it put it; 0 where that is past the end.
-    pub fn counted(s: &[u8]) -> Table
+    pub(crate) fn counted(s: &[u8]) -> Table
         ensures { λ r. ⌜ counts r ≡ countsOf (now (s .entry)) ⌝ }
     {
         let nodes = byte_at(s, 1);
@@ -45,7 +45,7 @@ impl Table {
         }
     }
 
-    pub fn form_section(self, s: &[u8]) -> Answer
+    pub(crate) fn form_section(self, s: &[u8]) -> Answer
         ensures { λ r. ⌜ told (now (s .entry)) r ≡ concluded (formSection (now (s .entry))) (shown self (now (s .entry))) ⌝ }
     {
         if s.len() < 1 {
@@ -58,7 +58,7 @@ impl Table {
         Answer::Read(self)
     }
 
-    pub fn node_section(self, s: &[u8]) -> Answer
+    pub(crate) fn node_section(self, s: &[u8]) -> Answer
         ensures { λ r. ⌜ told (now (s .entry)) r ≡ concluded (nodeSection (counts self) (now (s .entry))) (shown self (now (s .entry))) ⌝ }
     {
         let c = check_count(s, 1, 1, Table::MAX_NODES);
@@ -77,7 +77,7 @@ impl Table {
         Answer::Read(self)
     }
 
-    pub fn lock_section(self, s: &[u8]) -> Answer
+    pub(crate) fn lock_section(self, s: &[u8]) -> Answer
         ensures { λ r. ⌜ told (now (s .entry)) r ≡ concluded (lockSection (counts self) (now (s .entry))) (shown self (now (s .entry))) ⌝ }
     {
         let c = check_count(s, self.locks_at(), 0, Table::MAX_LOCKS);
@@ -97,7 +97,7 @@ impl Table {
     }
 
     // A resource's record has nothing to test, so the section is complete when its last record is.
-    pub fn resource_section(self, s: &[u8]) -> Answer
+    pub(crate) fn resource_section(self, s: &[u8]) -> Answer
         ensures { λ r. ⌜ told (now (s .entry)) r ≡ concluded (resourceSection (counts self) (now (s .entry))) (shown self (now (s .entry))) ⌝ }
     {
         let c = check_count(s, self.resources_at(), 0, Table::MAX_RESOURCES);
@@ -110,7 +110,7 @@ impl Table {
         Answer::Read(self)
     }
 
-    pub fn access_section(self, s: &[u8]) -> Answer
+    pub(crate) fn access_section(self, s: &[u8]) -> Answer
         ensures { λ r. ⌜ told (now (s .entry)) r ≡ concluded (accessSection (counts self) (now (s .entry))) (shown self (now (s .entry))) ⌝ }
     {
         let c = check_count(s, self.accesses_at(), 0, Table::MAX_ACCESSES);
@@ -129,7 +129,7 @@ impl Table {
         Answer::Read(self)
     }
 
-    pub fn end_section(self, s: &[u8]) -> Answer
+    pub(crate) fn end_section(self, s: &[u8]) -> Answer
         ensures { λ r. ⌜ told (now (s .entry)) r ≡ concluded (endSection (counts self) (now (s .entry))) (shown self (now (s .entry))) ⌝ }
     {
         let end = self.access_at(wide(self.accesses));
