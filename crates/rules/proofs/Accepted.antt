@@ -38,9 +38,9 @@ module _ (b : List ℕ) (e : firstFault b ≡ Fine) where
   end-fine = then-right _ _ (then-right _ _ (then-right _ _ (then-right _ _ (then-right _ _ e))))
 
 -- A count that is fine lies within its limits.
-within : (b : List ℕ) (p least most : ℕ) → countCheck b p least most ≡ Fine → (least ≤ byte b p) × (byte b p ≤ most)
+pub count-limits : (b : List ℕ) (p least most : ℕ) → countCheck b p least most ≡ Fine → (least ≤ byte b p) × (byte b p ≤ most)
 unfolding countCheck
-within b p least most e =
+count-limits b p least most e =
     let q = unless-fine _ _ _ (then-right _ _ e) in
     (leb-true _ _ (and-left _ _ q), leb-true _ _ (and-right (leb least (byte b p)) _ q))
 
@@ -113,19 +113,19 @@ module _ (b : List ℕ) (e : firstFault b ≡ Fine) where
 
   nodes-within : (1 ≤ tableOf b .tree .nodes) × (tableOf b .tree .nodes ≤ 128)
   unfolding nodeSection tableOf tableAt countsOf
-  nodes-within = within b 1 1 128 (then-left _ _ (nodes-fine b e))
+  nodes-within = count-limits b 1 1 128 (then-left _ _ (nodes-fine b e))
 
   locks-within : tableOf b .locks ≤ 32
   unfolding lockSection tableOf tableAt countsOf
-  locks-within = within b _ 0 32 (then-left _ _ (locks-fine b e)) .1
+  locks-within = count-limits b _ 0 32 (then-left _ _ (locks-fine b e)) .1
 
   resources-within : tableOf b .resources ≤ 64
   unfolding resourceSection tableOf tableAt countsOf
-  resources-within = within b _ 0 64 (then-left _ _ (resources-fine b e)) .1
+  resources-within = count-limits b _ 0 64 (then-left _ _ (resources-fine b e)) .1
 
   accesses-within : tableOf b .accesses ≤ 128
   unfolding accessSection tableOf tableAt countsOf
-  accesses-within = within b _ 0 128 (then-left _ _ (accesses-fine b e)) .1
+  accesses-within = count-limits b _ 0 128 (then-left _ _ (accesses-fine b e)) .1
 
   rooted : Rooted (tableOf b .tree)
   rooted =

@@ -5,6 +5,7 @@ pub mod Bools
 pub mod Bounded
 pub mod Reading
 pub mod Accepted
+pub mod Places
 pub mod Lists
 -- The tree and the nearest common scheduler.
 pub mod Nodes

@@ -1,4 +1,4 @@
--- The contract of each getter leaves one answer: it says which number the answer is.
+-- The contract of each getter, and of a fault's number and place, leaves one answer: it says which number the answer is.
 -- Assumes nothing.
 use contract.Lifetimes.{Lfts}
 use denote.Triple.Clauses.{AtExit}
@@ -30,6 +30,10 @@ use Rattle.table.proofs.Table.is_scheduler.Kinds as is-scheduler-kinds
 use Rattle.table.proofs.Table.is_scheduler.Reads as is-scheduler-reads
 use Rattle.table.proofs.Table.is_child.Kinds as is-child-kinds
 use Rattle.table.proofs.Table.is_child.Reads as is-child-reads
+use Rattle.table.proofs.Fault.number.Kinds as number-kinds
+use Rattle.table.proofs.Fault.number.Reads as number-reads
+use Rattle.table.proofs.Fault.place.Kinds as place-kinds
+use Rattle.table.proofs.Fault.place.Reads as place-reads
 
 pub wide-unique :
     (κs : Lfts 0) (a : Dens κs wide-kinds.ps) (r₁ r₂ : resT wide-kinds.r κs .Denot) (s₁ s₂ : AtExit (endedOf 0 wide-kinds.ps wide-kinds.r) κs)
@@ -95,3 +99,13 @@ pub is-child-unique :
     (κs : Lfts 1) (a : Dens κs is-child-kinds.ps) (r₁ r₂ : resT is-child-kinds.r κs .Denot) (s₁ s₂ : AtExit (endedOf 1 is-child-kinds.ps is-child-kinds.r) κs)
     → is-child-reads.Post κs a r₁ s₁ → is-child-reads.Post κs a r₂ s₂ → r₁ ≡ r₂
 is-child-unique κs a r₁ r₂ s₁ s₂ p q = p ∙ sym q
+
+pub number-unique :
+    (κs : Lfts 0) (a : Dens κs number-kinds.ps) (r₁ r₂ : resT number-kinds.r κs .Denot) (s₁ s₂ : AtExit (endedOf 0 number-kinds.ps number-kinds.r) κs)
+    → number-reads.Post κs a r₁ s₁ → number-reads.Post κs a r₂ s₂ → r₁ ≡ r₂
+number-unique κs a r₁ r₂ s₁ s₂ p q = p .0 ∙ sym (q .0)
+
+pub place-unique :
+    (κs : Lfts 0) (a : Dens κs place-kinds.ps) (r₁ r₂ : resT place-kinds.r κs .Denot) (s₁ s₂ : AtExit (endedOf 0 place-kinds.ps place-kinds.r) κs)
+    → place-reads.Post κs a r₁ s₁ → place-reads.Post κs a r₂ s₂ → r₁ ≡ r₂
+place-unique κs a r₁ r₂ s₁ s₂ p q = p ∙ sym q

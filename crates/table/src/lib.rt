@@ -2,6 +2,7 @@
 pub mod bytes;
 mod fields;
 mod records;
+mod refusals;
 mod sections;
 
 ghost use mathlib.Core.Path.{_≡_};
