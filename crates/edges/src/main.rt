@@ -1,0 +1,6 @@
+// The edges of document 01, each run once: what the library answers, line by line.
+mod reading;
+
+fn main() {
+    reading::run();
+}
