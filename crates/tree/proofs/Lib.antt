@@ -1,0 +1,4 @@
+pub mod Fuel
+pub mod Turns
+pub mod Tasks
+pub mod Unique
