@@ -12,7 +12,7 @@ fn refused(f: Fault) -> u64
     requires { ⌜ place f < 4294967296 ⌝ }
     ensures { λ r. ⌜ r ≡ number f * 4294967296 + place f ⌝ }
 {
-    f.number() * 4294967296 + f.place() as u64
+    f.number() as u64 * 4294967296 + f.place() as u64
 }
 
 #[no_mangle]

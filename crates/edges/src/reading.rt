@@ -64,7 +64,7 @@ fn show(name: &[u8], b: &[u8], n: usize) {
         }
         Answer::Refused(f) => {
             io::write_all(1, b": refused ");
-            io::print_decimal(1, f.number());
+            io::print_decimal(1, f.number() as u64);
             io::write_all(1, b" at ");
             io::print_decimal(1, f.place() as u64);
             io::write_all(1, b"\n");

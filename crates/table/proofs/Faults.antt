@@ -1,8 +1,9 @@
 -- A fault is known by its number and place, so what tells these tells the fault.
 -- Assumes nothing.
-use Prim.Native.Nat.{ℕ}
+use Prim.Native.Nat.{ℕ, _≤_}
 use mathlib.Core.Path.{_≡_, refl, sym, _∙_, ap}
 use mathlib.Core.Bool.{cond}
+use native.Mathlib.Omega.{arith}
 use lib.Dec.{eqb}
 use Rattle.table.specs.declared.Fault.{Fault}
 use Rattle.table.specs.declared.Fault.the-variants.{Short, Form, Count, Parent, Kind, Provider, Covered, Task, Resource, LockSet, Leftover, Room, NoThresholds, State, Name, Phase, Processor, Held}
@@ -54,3 +55,25 @@ fault-back (Held p) = refl
 -- Two faults with one number and one place are the same.
 pub fault-same : (f g : Fault) → number f ≡ number g → place f ≡ place g → f ≡ g
 fault-same f g n p = sym (fault-back f) ∙ rw (n, p) (fault-back g)
+
+-- There are eighteen numbers.
+pub number-small : (f : Fault) → number f ≤ 18
+unfolding number
+number-small (Short p) = omega arith
+number-small (Form p) = omega arith
+number-small (Count p) = omega arith
+number-small (Parent p) = omega arith
+number-small (Kind p) = omega arith
+number-small (Provider p) = omega arith
+number-small (Covered p) = omega arith
+number-small (Task p) = omega arith
+number-small (Resource p) = omega arith
+number-small (LockSet p) = omega arith
+number-small (Leftover p) = omega arith
+number-small (Room p) = omega arith
+number-small (NoThresholds p) = omega arith
+number-small (State p) = omega arith
+number-small (Name p) = omega arith
+number-small (Phase p) = omega arith
+number-small (Processor p) = omega arith
+number-small (Held p) = omega arith

@@ -103,7 +103,7 @@ is-child-unique κs a r₁ r₂ s₁ s₂ p q = p ∙ sym q
 pub number-unique :
     (κs : Lfts 0) (a : Dens κs number-kinds.ps) (r₁ r₂ : resT number-kinds.r κs .Denot) (s₁ s₂ : AtExit (endedOf 0 number-kinds.ps number-kinds.r) κs)
     → number-reads.Post κs a r₁ s₁ → number-reads.Post κs a r₂ s₂ → r₁ ≡ r₂
-number-unique κs a r₁ r₂ s₁ s₂ p q = p .0 ∙ sym (q .0)
+number-unique κs a r₁ r₂ s₁ s₂ p q = p ∙ sym q
 
 pub place-unique :
     (κs : Lfts 0) (a : Dens κs place-kinds.ps) (r₁ r₂ : resT place-kinds.r κs .Denot) (s₁ s₂ : AtExit (endedOf 0 place-kinds.ps place-kinds.r) κs)

@@ -1,12 +1,11 @@
 // A fault's number and place, as document 01 numbers them.
 use crate::Fault;
 ghost use mathlib.Core.Path.{_≡_};
-ghost use Prim.Native.Nat.{_<_};
 ghost use Rattle.table.specs.Answers.{number, place};
 
 impl Fault {
-    pub fn number(self) -> u64
-        ensures { λ r. ⌜ (r ≡ number self) × (r < 32) ⌝ }
+    pub fn number(self) -> usize
+        ensures { λ r. ⌜ r ≡ number self ⌝ }
     {
         match self {
             Fault::Short(_) => 1,

@@ -1,5 +1,3 @@
-use mathlib.Core.Path.{refl}
-use native.Mathlib.Omega.{arith}
 use Rattle.table.specs.Answers.{number}
 use borrow.Author.Needs.{needs}
 use Rattle.table.proofs.Fault.number.Statement.{statement}
@@ -61,75 +59,75 @@ enum-told-18 c = search needs
 
 returns : tie.Need-returns
 unfolding number
-returns c = rw (c .enum-told .given .1) (refl, omega arith)
+returns c = rw (c .enum-told .given .1)
 
 returns-2 : tie.Need-returns-2
 unfolding number
-returns-2 c = rw (c .enum-told2 .given .1) (refl, omega arith)
+returns-2 c = rw (c .enum-told2 .given .1)
 
 returns-3 : tie.Need-returns-3
 unfolding number
-returns-3 c = rw (c .enum-told3 .given .1) (refl, omega arith)
+returns-3 c = rw (c .enum-told3 .given .1)
 
 returns-4 : tie.Need-returns-4
 unfolding number
-returns-4 c = rw (c .enum-told4 .given .1) (refl, omega arith)
+returns-4 c = rw (c .enum-told4 .given .1)
 
 returns-5 : tie.Need-returns-5
 unfolding number
-returns-5 c = rw (c .enum-told5 .given .1) (refl, omega arith)
+returns-5 c = rw (c .enum-told5 .given .1)
 
 returns-6 : tie.Need-returns-6
 unfolding number
-returns-6 c = rw (c .enum-told6 .given .1) (refl, omega arith)
+returns-6 c = rw (c .enum-told6 .given .1)
 
 returns-7 : tie.Need-returns-7
 unfolding number
-returns-7 c = rw (c .enum-told7 .given .1) (refl, omega arith)
+returns-7 c = rw (c .enum-told7 .given .1)
 
 returns-8 : tie.Need-returns-8
 unfolding number
-returns-8 c = rw (c .enum-told8 .given .1) (refl, omega arith)
+returns-8 c = rw (c .enum-told8 .given .1)
 
 returns-9 : tie.Need-returns-9
 unfolding number
-returns-9 c = rw (c .enum-told9 .given .1) (refl, omega arith)
+returns-9 c = rw (c .enum-told9 .given .1)
 
 returns-10 : tie.Need-returns-10
 unfolding number
-returns-10 c = rw (c .enum-told10 .given .1) (refl, omega arith)
+returns-10 c = rw (c .enum-told10 .given .1)
 
 returns-11 : tie.Need-returns-11
 unfolding number
-returns-11 c = rw (c .enum-told11 .given .1) (refl, omega arith)
+returns-11 c = rw (c .enum-told11 .given .1)
 
 returns-12 : tie.Need-returns-12
 unfolding number
-returns-12 c = rw (c .enum-told12 .given .1) (refl, omega arith)
+returns-12 c = rw (c .enum-told12 .given .1)
 
 returns-13 : tie.Need-returns-13
 unfolding number
-returns-13 c = rw (c .enum-told13 .given .1) (refl, omega arith)
+returns-13 c = rw (c .enum-told13 .given .1)
 
 returns-14 : tie.Need-returns-14
 unfolding number
-returns-14 c = rw (c .enum-told14 .given .1) (refl, omega arith)
+returns-14 c = rw (c .enum-told14 .given .1)
 
 returns-15 : tie.Need-returns-15
 unfolding number
-returns-15 c = rw (c .enum-told15 .given .1) (refl, omega arith)
+returns-15 c = rw (c .enum-told15 .given .1)
 
 returns-16 : tie.Need-returns-16
 unfolding number
-returns-16 c = rw (c .enum-told16 .given .1) (refl, omega arith)
+returns-16 c = rw (c .enum-told16 .given .1)
 
 returns-17 : tie.Need-returns-17
 unfolding number
-returns-17 c = rw (c .enum-told17 .given .1) (refl, omega arith)
+returns-17 c = rw (c .enum-told17 .given .1)
 
 returns-18 : tie.Need-returns-18
 unfolding number
-returns-18 c = rw (c .enum-told18 .given .1) (refl, omega arith)
+returns-18 c = rw (c .enum-told18 .given .1)
 
 pub number-spec : {M : Type 1} → statement M
 number-spec =
