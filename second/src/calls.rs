@@ -58,7 +58,10 @@ fn number(answer: Answer) -> u64 {
 
 /// Two bytes a pair; answers the number of pairs.
 fn write_pairs(pairs: Vec<(u8, u8)>, out: &mut [u8]) -> Answer {
-    let bytes: Vec<u8> = pairs.iter().flat_map(|&(first, second)| [first, second]).collect();
+    let bytes: Vec<u8> = pairs
+        .iter()
+        .flat_map(|&(first, second)| [first, second])
+        .collect();
     write(&bytes, out).map(|_| pairs.len())
 }
 
@@ -66,7 +69,10 @@ fn write_pairs(pairs: Vec<(u8, u8)>, out: &mut [u8]) -> Answer {
 fn write(bytes: &[u8], out: &mut [u8]) -> Answer {
     let needed = bytes.len();
     let Some(part) = out.get_mut(..needed) else {
-        return Err(Refusal { number: 12, place: needed });
+        return Err(Refusal {
+            number: 12,
+            place: needed,
+        });
     };
     part.copy_from_slice(bytes);
     Ok(needed)

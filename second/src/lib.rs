@@ -1,6 +1,6 @@
 //! The independent second program. It says document 01 once more, in its own
 //! way, so that an error of the first program is not made here too. Everything
-//! is plain safe code over vectors; only `compare` knows the C interface.
+//! is plain safe code over vectors; only `caller/` knows the C interface.
 
 pub mod calls;
 pub mod listing;
@@ -12,7 +12,6 @@ pub mod table;
 pub mod thresholds;
 
 pub mod arguments;
-pub mod lent;
 pub mod random;
 pub mod tally;
 

@@ -16,7 +16,10 @@ fn findings(table: &Table) -> String {
     let races = races(table);
     text += &format!("races {}\n", races.len());
     for (i, j) in races {
-        let (first, second) = (&table.accesses[usize::from(i)], &table.accesses[usize::from(j)]);
+        let (first, second) = (
+            &table.accesses[usize::from(i)],
+            &table.accesses[usize::from(j)],
+        );
         let label = table.labels[first.resource];
         text += &format!("race {label} {i} {} {j} {}\n", first.task, second.task);
     }

@@ -44,7 +44,9 @@ fn refusal(number: u32) -> Refusal {
 /// The lent bytes as a state, if they are a well-formed one.
 pub fn well_formed(table: &Table, bytes: &[u8]) -> Option<State> {
     let state: State = bytes.try_into().ok()?;
-    (0..PLACES).all(|n| place_fits(table, n, state[n])).then_some(state)
+    (0..PLACES)
+        .all(|n| place_fits(table, n, state[n]))
+        .then_some(state)
 }
 
 fn place_fits(table: &Table, n: usize, value: u8) -> bool {

@@ -15,7 +15,11 @@ struct Held<'a> {
 /// Every pair (i, j) of accesses that is a race.
 pub fn races(table: &Table) -> Vec<(u8, u8)> {
     let ancestry = Ancestry::of(table);
-    let held: Vec<Held> = table.accesses.iter().map(|access| hold(table, access)).collect();
+    let held: Vec<Held> = table
+        .accesses
+        .iter()
+        .map(|access| hold(table, access))
+        .collect();
     let mut pairs = Vec::new();
     for (i, first) in held.iter().enumerate() {
         for (j, second) in held.iter().enumerate() {

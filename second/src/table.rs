@@ -83,7 +83,10 @@ impl Record<'_> {
 
     /// A refusal at the record's byte n.
     fn refuse(&self, number: u32, n: usize) -> Refusal {
-        Refusal { number, place: self.place + n }
+        Refusal {
+            number,
+            place: self.place + n,
+        }
     }
 }
 
@@ -92,7 +95,10 @@ impl<'a> Input<'a> {
     fn record(&mut self, width: usize) -> Result<Record<'a>, Refusal> {
         let place = self.next;
         let Some(bytes) = self.bytes.get(place..place + width) else {
-            return Err(Refusal { number: 1, place: self.bytes.len() });
+            return Err(Refusal {
+                number: 1,
+                place: self.bytes.len(),
+            });
         };
         self.next += width;
         Ok(Record { place, bytes })
@@ -119,7 +125,10 @@ pub fn read(bytes: &[u8]) -> Result<Table, Refusal> {
     read_resources(&mut input, &mut table)?;
     read_accesses(&mut input, &mut table)?;
     if input.next < bytes.len() {
-        return Err(Refusal { number: 11, place: input.next });
+        return Err(Refusal {
+            number: 11,
+            place: input.next,
+        });
     }
     Ok(table)
 }
@@ -139,7 +148,11 @@ fn read_nodes(input: &mut Input, table: &mut Table) -> Result<(), Refusal> {
         let parent = record.field(0);
         // Only nodes already read are in the table, so a parent with a number
         // that is not smaller is no scheduler either.
-        let parent_fits = if n == 0 { parent == 0 } else { table.is_scheduler(parent) };
+        let parent_fits = if n == 0 {
+            parent == 0
+        } else {
+            table.is_scheduler(parent)
+        };
         if !parent_fits {
             return Err(record.refuse(4, 0));
         }
@@ -173,7 +186,11 @@ fn read_locks(input: &mut Input, table: &mut Table) -> Result<(), Refusal> {
         if !covered_fits {
             return Err(record.refuse(7, 2));
         }
-        table.locks.push(Lock { provider, kind, covered });
+        table.locks.push(Lock {
+            provider,
+            kind,
+            covered,
+        });
     }
     Ok(())
 }
@@ -182,7 +199,9 @@ fn read_resources(input: &mut Input, table: &mut Table) -> Result<(), Refusal> {
     let count = input.count(0, 64)?;
     for _ in 0..count {
         let record = input.record(2)?;
-        table.labels.push(u16::from_be_bytes([record.bytes[0], record.bytes[1]]));
+        table
+            .labels
+            .push(u16::from_be_bytes([record.bytes[0], record.bytes[1]]));
     }
     Ok(())
 }
@@ -205,7 +224,11 @@ fn read_accesses(input: &mut Input, table: &mut Table) -> Result<(), Refusal> {
         if names_no_lock {
             return Err(record.refuse(10, 2));
         }
-        table.accesses.push(Access { task, resource, set });
+        table.accesses.push(Access {
+            task,
+            resource,
+            set,
+        });
     }
     Ok(())
 }

@@ -10,7 +10,10 @@ const NONE: u8 = 255;
 /// Two bytes a node, priority and then threshold, or refusal 13.
 pub fn thresholds(table: &Table) -> Result<Vec<u8>, Refusal> {
     if !has_thresholds(table) {
-        return Err(Refusal { number: 13, place: 0 });
+        return Err(Refusal {
+            number: 13,
+            place: 0,
+        });
     }
     let mut bytes = vec![NONE; 2 * table.nodes.len()];
     let mut counter = 0;
@@ -48,7 +51,9 @@ fn has_thresholds(table: &Table) -> bool {
 
 /// The tasks in the order in which the walk meets them.
 fn in_walk_order(table: &Table) -> Vec<usize> {
-    let mut tasks: Vec<usize> = (0..table.nodes.len()).filter(|&n| table.is_task(n)).collect();
+    let mut tasks: Vec<usize> = (0..table.nodes.len())
+        .filter(|&n| table.is_task(n))
+        .collect();
     tasks.sort_by_cached_key(|&task| path(table, task));
     tasks
 }

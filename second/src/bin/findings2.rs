@@ -8,6 +8,8 @@ use second::table::LONGEST;
 fn main() -> io::Result<()> {
     // One byte beyond the longest table is enough to know that bytes follow.
     let mut bytes = Vec::new();
-    io::stdin().take(LONGEST as u64 + 1).read_to_end(&mut bytes)?;
+    io::stdin()
+        .take(LONGEST as u64 + 1)
+        .read_to_end(&mut bytes)?;
     io::stdout().write_all(listing(&bytes).as_bytes())
 }
