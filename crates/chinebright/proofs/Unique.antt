@@ -1,14 +1,36 @@
--- The contract of each call of the C interface leaves one answer.
+-- The contract of each call of the C interface leaves one answer, and one content of the lent buffer.
 -- Assumes nothing.
 use contract.Lifetimes.{Lfts}
 use denote.Triple.Clauses.{AtExit}
+use denote.Ref.{now}
 use borrow.Fn.Kinds.{Dens, resT, endedOf}
-use mathlib.Core.Path.{_≡_, sym, _∙_}
+use mathlib.Core.Path.{_≡_, sym, _∙_, ap}
+use Rattle.chinebright.specs.Coded.{Coded}
 use Rattle.chinebright.proofs.chinebright_read.Kinds as read-kinds
 use Rattle.chinebright.proofs.chinebright_read.Reads as read-reads
+use Rattle.chinebright.proofs.chinebright_preempts.Kinds as preempts-kinds
+use Rattle.chinebright.proofs.chinebright_preempts.Reads as preempts-reads
+use Rattle.chinebright.proofs.chinebright_thresholds.Kinds as thresholds-kinds
+use Rattle.chinebright.proofs.chinebright_thresholds.Reads as thresholds-reads
+
+-- What two calls leave is the same, so the answers are and the buffers are.
+same-left : {a b : Coded} → a ≡ b → (a .answer ≡ b .answer) × (a .buffer ≡ b .buffer)
+same-left e = (ap (λ (l : Coded). l .answer) e, ap (λ (l : Coded). l .buffer) e)
 
 pub chinebright-read-unique :
     (κs : Lfts 1) (a : Dens κs read-kinds.ps) (r₁ r₂ : resT read-kinds.r κs .Denot)
     (s₁ s₂ : AtExit (endedOf 1 read-kinds.ps read-kinds.r) κs)
     → read-reads.Post κs a r₁ s₁ → read-reads.Post κs a r₂ s₂ → r₁ ≡ r₂
 chinebright-read-unique κs a r₁ r₂ s₁ s₂ p q = p ∙ sym q
+
+pub chinebright-preempts-unique :
+    (κs : Lfts 1) (a : Dens κs preempts-kinds.ps) (r₁ r₂ : resT preempts-kinds.r κs .Denot)
+    (s₁ s₂ : AtExit (endedOf 1 preempts-kinds.ps preempts-kinds.r) κs)
+    → preempts-reads.Post κs a r₁ s₁ → preempts-reads.Post κs a r₂ s₂ → r₁ ≡ r₂
+chinebright-preempts-unique κs a r₁ r₂ s₁ s₂ p q = p ∙ sym q
+
+pub chinebright-thresholds-unique :
+    (κs : Lfts 2) (a : Dens κs thresholds-kinds.ps) (r₁ r₂ : resT thresholds-kinds.r κs .Denot)
+    (s₁ s₂ : AtExit (endedOf 2 thresholds-kinds.ps thresholds-kinds.r) κs)
+    → thresholds-reads.Post κs a r₁ s₁ → thresholds-reads.Post κs a r₂ s₂ → (r₁ ≡ r₂) × (now (s₁ .1 .0) ≡ now (s₂ .1 .0))
+chinebright-thresholds-unique κs a r₁ r₂ s₁ s₂ p q = same-left (p ∙ sym q)

@@ -1,12 +1,14 @@
 // The C interface: each call answers the refusal's number (0 where there is none) times 2^32, plus the value or the refusal's place.
+use priorities::Numbered;
 use table::Answer;
 use table::Fault;
 use table::Table;
+use tree::Preemption;
 ghost use mathlib.Core.Path.{_≡_};
 ghost use Prim.Native.Nat.{_+_, _*_, _<_};
-ghost use Rattle.rules.specs.Calls.{readCall};
+ghost use Rattle.rules.specs.Calls.{readCall, preemptsCall, thresholdsCall};
 ghost use Rattle.table.specs.Answers.{number, place};
-ghost use Rattle.chinebright.specs.Coded.{coded};
+ghost use Rattle.chinebright.specs.Coded.{coded, codedOf, leaves};
 
 fn refused(f: Fault) -> u64
     requires { ⌜ place f < 4294967296 ⌝ }
@@ -23,5 +25,28 @@ pub extern "C" fn chinebright_read(table: &[u8]) -> u64
     match a {
         Answer::Read(_) => 0,
         Answer::Refused(f) => refused(f),
+    }
+}
+
+#[no_mangle]
+pub extern "C" fn chinebright_preempts(table: &[u8], t: usize, u: usize) -> u64
+    ensures { λ r. ⌜ r ≡ coded (preemptsCall (now (table .entry)) t u) ⌝ }
+{
+    let a = tree::preempts(table, t, u);
+    match a {
+        Preemption::Yes => 1,
+        Preemption::No => 0,
+        Preemption::Refused(f) => refused(f),
+    }
+}
+
+#[no_mangle]
+pub extern "C" fn chinebright_thresholds(table: &[u8], out: &mut [u8]) -> u64
+    ensures { λ r. ⌜ leaves r (now (out .exit)) ≡ codedOf (thresholdsCall (now (table .entry)) (now (out .entry))) ⌝ }
+{
+    let a = priorities::thresholds(table, out);
+    match a {
+        Numbered::Bytes(n) => n as u64,
+        Numbered::Refused(f) => refused(f),
     }
 }

@@ -7,6 +7,7 @@ pub mod Reading
 pub mod Accepted
 pub mod Places
 pub mod Lists
+pub mod AnswersFit
 -- The tree and the nearest common scheduler.
 pub mod Nodes
 pub mod Climbs

@@ -88,7 +88,7 @@ module _ (t : Tree) (ok : Rooted t) (has : hasThresholds t ≡ true) where
       (λ c q. refl) (t .nodes))
 
   -- It is as wide as one task, if it has one.
-  width-some : (n : ℕ) → n < t .nodes → t .kind n ≡ fifo → (b : Bool) → someBelow (t .nodes) (isChild t n) ≡ b → width t n ≡ cond b 1 0
+  pub width-some : (n : ℕ) → n < t .nodes → t .kind n ≡ fifo → (b : Bool) → someBelow (t .nodes) (isChild t n) ≡ b → width t n ≡ cond b 1 0
   width-some n h k true e =
       let s = some-at (t .nodes) (isChild t n) e in
       omega (
