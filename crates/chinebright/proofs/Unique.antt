@@ -12,6 +12,10 @@ use Rattle.chinebright.proofs.chinebright_preempts.Kinds as preempts-ki
 use Rattle.chinebright.proofs.chinebright_preempts.Reads as preempts-reads
 use Rattle.chinebright.proofs.chinebright_thresholds.Kinds as thresholds-kinds
 use Rattle.chinebright.proofs.chinebright_thresholds.Reads as thresholds-reads
+use Rattle.chinebright.proofs.chinebright_races.Kinds as races-kinds
+use Rattle.chinebright.proofs.chinebright_races.Reads as races-reads
+use Rattle.chinebright.proofs.chinebright_illegal.Kinds as illegal-kinds
+use Rattle.chinebright.proofs.chinebright_illegal.Reads as illegal-reads
 
 -- What two calls leave is the same, so the answers are and the buffers are.
 same-left : {a b : Coded} → a ≡ b → (a .answer ≡ b .answer) × (a .buffer ≡ b .buffer)
@@ -34,3 +38,15 @@ pub chinebright-thresholds-unique :
     (s₁ s₂ : AtExit (endedOf 2 thresholds-kinds.ps thresholds-kinds.r) κs)
     → thresholds-reads.Post κs a r₁ s₁ → thresholds-reads.Post κs a r₂ s₂ → (r₁ ≡ r₂) × (now (s₁ .1 .0) ≡ now (s₂ .1 .0))
 chinebright-thresholds-unique κs a r₁ r₂ s₁ s₂ p q = same-left (p ∙ sym q)
+
+pub chinebright-races-unique :
+    (κs : Lfts 2) (a : Dens κs races-kinds.ps) (r₁ r₂ : resT races-kinds.r κs .Denot)
+    (s₁ s₂ : AtExit (endedOf 2 races-kinds.ps races-kinds.r) κs)
+    → races-reads.Post κs a r₁ s₁ → races-reads.Post κs a r₂ s₂ → (r₁ ≡ r₂) × (now (s₁ .1 .0) ≡ now (s₂ .1 .0))
+chinebright-races-unique κs a r₁ r₂ s₁ s₂ p q = same-left (p ∙ sym q)
+
+pub chinebright-illegal-unique :
+    (κs : Lfts 2) (a : Dens κs illegal-kinds.ps) (r₁ r₂ : resT illegal-kinds.r κs .Denot)
+    (s₁ s₂ : AtExit (endedOf 2 illegal-kinds.ps illegal-kinds.r) κs)
+    → illegal-reads.Post κs a r₁ s₁ → illegal-reads.Post κs a r₂ s₂ → (r₁ ≡ r₂) × (now (s₁ .1 .0) ≡ now (s₂ .1 .0))
+chinebright-illegal-unique κs a r₁ r₂ s₁ s₂ p q = same-left (p ∙ sym q)

@@ -1,12 +1,13 @@
 // The C interface: each call answers the refusal's number (0 where there is none) times 2^32, plus the value or the refusal's place.
 use priorities::Numbered;
+use races::Listed;
 use table::Answer;
 use table::Fault;
 use table::Table;
 use tree::Preemption;
 ghost use mathlib.Core.Path.{_≡_};
 ghost use Prim.Native.Nat.{_+_, _*_, _<_};
-ghost use Rattle.rules.specs.Calls.{readCall, preemptsCall, thresholdsCall};
+ghost use Rattle.rules.specs.Calls.{readCall, preemptsCall, racesCall, illegalCall, thresholdsCall};
 ghost use Rattle.table.specs.Answers.{number, place};
 ghost use Rattle.chinebright.specs.Coded.{coded, codedOf, leaves};
 
@@ -37,6 +38,28 @@ pub extern "C" fn chinebright_preempts(table: &[u8], t: usize, u: usize) -> u64
         Preemption::Yes => 1,
         Preemption::No => 0,
         Preemption::Refused(f) => refused(f),
+    }
+}
+
+#[no_mangle]
+pub extern "C" fn chinebright_races(table: &[u8], out: &mut [u8]) -> u64
+    ensures { λ r. ⌜ leaves r (now (out .exit)) ≡ codedOf (racesCall (now (table .entry)) (now (out .entry))) ⌝ }
+{
+    let a = races::races(table, out);
+    match a {
+        Listed::Pairs(n) => n as u64,
+        Listed::Refused(f) => refused(f),
+    }
+}
+
+#[no_mangle]
+pub extern "C" fn chinebright_illegal(table: &[u8], out: &mut [u8]) -> u64
+    ensures { λ r. ⌜ leaves r (now (out .exit)) ≡ codedOf (illegalCall (now (table .entry)) (now (out .entry))) ⌝ }
+{
+    let a = races::illegal(table, out);
+    match a {
+        Listed::Pairs(n) => n as u64,
+        Listed::Refused(f) => refused(f),
     }
 }
 

@@ -1,3 +1,4 @@
+-- No blocking lock before k is in both sets.
 use Rattle.locks.proofs.Search.{none-yet, none-here, found, none}
 use Rattle.rules.specs.Bounded.{someBelow}
 use Rattle.table.specs.Answers.{shown}

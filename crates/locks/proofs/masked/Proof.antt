@@ -1,3 +1,4 @@
+-- No lock before k is in the set and covers x.
 use Rattle.locks.proofs.Search.{none-yet, none-here, found, none}
 use Rattle.rules.specs.Bounded.{someBelow}
 use Rattle.table.specs.Answers.{shown}

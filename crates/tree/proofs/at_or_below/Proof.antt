@@ -1,3 +1,4 @@
+-- The climb from the node reached is the whole climb.
 use Rattle.tree.proofs.Turns.{below-here, below-top, below-up}
 use Rattle.rules.specs.Preemption.{atOrBelow}
 use Rattle.table.specs.Answers.{shown}

@@ -1,3 +1,4 @@
+-- The child found from the node reached is the one found from n.
 use Rattle.tree.proofs.Turns.{child-top, child-here, child-up}
 use Rattle.rules.specs.Preemption.{childAbove}
 use Rattle.table.specs.Answers.{shown}

@@ -1,3 +1,4 @@
+-- The tests in their order; a task has a number below the count of nodes, so each climb starts at a byte.
 use Rattle.tree.proofs.Tasks.{task-below}
 use Rattle.rules.proofs.Bools.{not-true, not-false}
 use Rattle.rules.specs.Preemption.{mayPreempt}

@@ -1,3 +1,4 @@
+-- What is nearest above the node reached is nearest above u.
 use Rattle.tree.proofs.Turns.{nearest-none, nearest-here, nearest-up}
 use Rattle.rules.specs.Preemption.{nearestCommon}
 use Rattle.table.specs.Answers.{shown}

@@ -1,0 +1,4 @@
+pub mod Written
+pub mod PairBytes
+pub mod Few
+pub mod Unique

@@ -1,0 +1,63 @@
+-- The contract of each public function leaves one answer, and that of each call one content of the buffer.
+-- Assumes nothing.
+use contract.Lifetimes.{Lfts}
+use denote.Ref.{now}
+use denote.Triple.Clauses.{AtExit}
+use borrow.Fn.Kinds.{Dens, resT, endedOf}
+use mathlib.Core.Path.{_≡_, refl, sym, _∙_, ap}
+use mathlib.Core.List.{List}
+use Prim.Native.Nat.{ℕ}
+use Rattle.rules.specs.Calls.{Left, refusing}
+use Rattle.table.specs.Answers.{number, place}
+use Rattle.table.proofs.Faults.{fault-same}
+use Rattle.races.specs.declared.Listed.{Listed}
+use Rattle.races.specs.declared.Listed.the-variants.{Pairs, Refused}
+use Rattle.races.specs.Answers.{left}
+use Rattle.races.proofs.is_race.Kinds as is-race-kinds
+use Rattle.races.proofs.is_race.Reads as is-race-reads
+use Rattle.races.proofs.is_illegal.Kinds as is-illegal-kinds
+use Rattle.races.proofs.is_illegal.Reads as is-illegal-reads
+use Rattle.races.proofs.races.Kinds as races-kinds
+use Rattle.races.proofs.races.Reads as races-reads
+use Rattle.races.proofs.illegal.Kinds as illegal-kinds
+use Rattle.races.proofs.illegal.Reads as illegal-reads
+
+-- What is left tells the answer and the buffer.
+answer-same : (a b : Listed) (l m : List ℕ) → left a l .answer ≡ left b m .answer → a ≡ b
+unfolding left refusing
+answer-same (Pairs n) (Pairs k) l m e = let q : n ≡ k = cc in ap Pairs q
+answer-same (Pairs n) (Refused g) l m e = cc
+answer-same (Refused f) (Pairs k) l m e = cc
+answer-same (Refused f) (Refused g) l m e =
+    let n : number f ≡ number g = cc in
+    let p : place f ≡ place g = cc in
+    ap Refused (fault-same f g n p)
+
+buffer-left : (a : Listed) (l : List ℕ) → left a l .buffer ≡ l
+unfolding left refusing
+buffer-left (Pairs n) l = refl
+buffer-left (Refused f) l = refl
+
+left-same : (a b : Listed) (l m : List ℕ) → left a l ≡ left b m → (a ≡ b) × (l ≡ m)
+left-same a b l m e =
+    (answer-same a b l m (ap (λ (x : Left). x .answer) e), sym (buffer-left a l) ∙ ap (λ (x : Left). x .buffer) e ∙ buffer-left b m)
+
+pub is-race-unique :
+    (κs : Lfts 1) (a : Dens κs is-race-kinds.ps) (r₁ r₂ : resT is-race-kinds.r κs .Denot) (s₁ s₂ : AtExit (endedOf 1 is-race-kinds.ps is-race-kinds.r) κs)
+    → is-race-reads.Post κs a r₁ s₁ → is-race-reads.Post κs a r₂ s₂ → r₁ ≡ r₂
+is-race-unique κs a r₁ r₂ s₁ s₂ p q = p ∙ sym q
+
+pub is-illegal-unique :
+    (κs : Lfts 1) (a : Dens κs is-illegal-kinds.ps) (r₁ r₂ : resT is-illegal-kinds.r κs .Denot) (s₁ s₂ : AtExit (endedOf 1 is-illegal-kinds.ps is-illegal-kinds.r) κs)
+    → is-illegal-reads.Post κs a r₁ s₁ → is-illegal-reads.Post κs a r₂ s₂ → r₁ ≡ r₂
+is-illegal-unique κs a r₁ r₂ s₁ s₂ p q = p ∙ sym q
+
+pub races-unique :
+    (κs : Lfts 2) (a : Dens κs races-kinds.ps) (r₁ r₂ : resT races-kinds.r κs .Denot) (s₁ s₂ : AtExit (endedOf 2 races-kinds.ps races-kinds.r) κs)
+    → races-reads.Post κs a r₁ s₁ → races-reads.Post κs a r₂ s₂ → (r₁ ≡ r₂) × (now (s₁ .1 .0) ≡ now (s₂ .1 .0))
+races-unique κs a r₁ r₂ s₁ s₂ p q = left-same r₁ r₂ _ _ (p ∙ sym q)
+
+pub illegal-unique :
+    (κs : Lfts 2) (a : Dens κs illegal-kinds.ps) (r₁ r₂ : resT illegal-kinds.r κs .Denot) (s₁ s₂ : AtExit (endedOf 2 illegal-kinds.ps illegal-kinds.r) κs)
+    → illegal-reads.Post κs a r₁ s₁ → illegal-reads.Post κs a r₂ s₂ → (r₁ ≡ r₂) × (now (s₁ .1 .0) ≡ now (s₂ .1 .0))
+illegal-unique κs a r₁ r₂ s₁ s₂ p q = left-same r₁ r₂ _ _ (p ∙ sym q)

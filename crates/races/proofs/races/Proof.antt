@@ -1,0 +1,48 @@
+-- An accepted table has at most 32 locks, as the list asks.
+use Rattle.races.specs.Answers.{left}
+use Rattle.rules.specs.Calls.{racesCall, reading}
+use Rattle.table.proofs.Shown.{locks-shown}
+use Rattle.table.proofs.Told.{told-table, told-fault, told-accepted}
+use borrow.Author.Needs.{needs}
+use Rattle.races.proofs.races.Statement.{statement}
+use Rattle.races.proofs.races.Tie as tie
+
+read-requires : tie.Need-read-requires
+read-requires c κs = search needs
+
+enum-known-a : tie.Need-enum-known-a
+enum-known-a c = search needs
+
+returns : tie.Need-returns
+unfolding left racesCall reading
+returns c = rw (told-fault _ _ (c .before .before .before .read .ensures) _ (c .before .a .given .1))
+
+enum-known-a-2 : tie.Need-enum-known-a-2
+enum-known-a-2 c = search needs
+
+list-races-requires : tie.Need-list-races-requires
+list-races-requires c κs =
+    let a = c .before .before in
+    rw locks-shown at (told-accepted _ _ (a .before .before .read .ensures) _ (a .a2 .given .1) .fewLocks)
+
+same-length : tie.Need-same-length
+same-length c = search needs
+
+returns-2 : tie.Need-returns-2
+unfolding racesCall reading
+returns-2 c =
+    let w = c .before .before in
+    let a = w .before .before .before in
+    rw (told-table _ _ (a .before .before .read .ensures) _ (a .a2 .given .1)) (w .list-races .ensures)
+
+pub races-spec : {M : Type 1} → statement M
+races-spec =
+    tie.close
+    (tie.spec
+    read-requires
+    enum-known-a
+    returns
+    enum-known-a-2
+    list-races-requires
+    same-length
+    returns-2)
