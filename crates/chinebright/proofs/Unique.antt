@@ -16,6 +16,10 @@ use Rattle.chinebright.proofs.chinebright_races.Kinds as races-kinds
 use Rattle.chinebright.proofs.chinebright_races.Reads as races-reads
 use Rattle.chinebright.proofs.chinebright_illegal.Kinds as illegal-kinds
 use Rattle.chinebright.proofs.chinebright_illegal.Reads as illegal-reads
+use Rattle.chinebright.proofs.stepping.chinebright_fresh.Kinds as fresh-kinds
+use Rattle.chinebright.proofs.stepping.chinebright_fresh.Reads as fresh-reads
+use Rattle.chinebright.proofs.stepping.chinebright_step.Kinds as step-kinds
+use Rattle.chinebright.proofs.stepping.chinebright_step.Reads as step-reads
 
 -- What two calls leave is the same, so the answers are and the buffers are.
 same-left : {a b : Coded} → a ≡ b → (a .answer ≡ b .answer) × (a .buffer ≡ b .buffer)
@@ -50,3 +54,15 @@ pub chinebright-illegal-unique :
     (s₁ s₂ : AtExit (endedOf 2 illegal-kinds.ps illegal-kinds.r) κs)
     → illegal-reads.Post κs a r₁ s₁ → illegal-reads.Post κs a r₂ s₂ → (r₁ ≡ r₂) × (now (s₁ .1 .0) ≡ now (s₂ .1 .0))
 chinebright-illegal-unique κs a r₁ r₂ s₁ s₂ p q = same-left (p ∙ sym q)
+
+pub chinebright-fresh-unique :
+    (κs : Lfts 1) (a : Dens κs fresh-kinds.ps) (r₁ r₂ : resT fresh-kinds.r κs .Denot)
+    (s₁ s₂ : AtExit (endedOf 1 fresh-kinds.ps fresh-kinds.r) κs)
+    → fresh-reads.Post κs a r₁ s₁ → fresh-reads.Post κs a r₂ s₂ → (r₁ ≡ r₂) × (now (s₁ .0) ≡ now (s₂ .0))
+chinebright-fresh-unique κs a r₁ r₂ s₁ s₂ p q = same-left (p ∙ sym q)
+
+pub chinebright-step-unique :
+    (κs : Lfts 2) (a : Dens κs step-kinds.ps) (r₁ r₂ : resT step-kinds.r κs .Denot)
+    (s₁ s₂ : AtExit (endedOf 2 step-kinds.ps step-kinds.r) κs)
+    → step-reads.Post κs a r₁ s₁ → step-reads.Post κs a r₂ s₂ → (r₁ ≡ r₂) × (now (s₁ .1 .0) ≡ now (s₂ .1 .0))
+chinebright-step-unique κs a r₁ r₂ s₁ s₂ p q = same-left (p ∙ sym q)

@@ -1,4 +1,6 @@
 // The C interface: each call answers the refusal's number (0 where there is none) times 2^32, plus the value or the refusal's place.
+mod stepping;
+
 use priorities::Numbered;
 use races::Listed;
 use table::Answer;
@@ -11,7 +13,7 @@ ghost use Rattle.rules.specs.Calls.{readCall, preemptsCall, racesCall, illegalC
 ghost use Rattle.table.specs.Answers.{number, place};
 ghost use Rattle.chinebright.specs.Coded.{coded, codedOf, leaves};
 
-fn refused(f: Fault) -> u64
+pub(crate) fn refused(f: Fault) -> u64
     requires { ⌜ place f < 4294967296 ⌝ }
     ensures { λ r. ⌜ r ≡ number f * 4294967296 + place f ⌝ }
 {

@@ -12,7 +12,7 @@ use Rattle.rules.specs.Reading.{Reading, Is, Refused, read}
 use Rattle.rules.specs.Preemption.{mayPreempt}
 use Rattle.rules.specs.Races.{races, illegals}
 use Rattle.rules.specs.Priorities.{hasThresholds, thresholds}
-use Rattle.rules.specs.Machine.{Step, Stepped, Granted, Denied, step}
+use Rattle.rules.specs.Machine.{places, fresh, Step, Stepped, Granted, Denied, step}
 
 -- A call answers a value, or is refused with a number and a place.
 pub data Answer : Type 0 where
@@ -61,6 +61,10 @@ unfoldable pub thresholdsCall : List ℕ → List ℕ → Left
 thresholdsCall b out =
     reading (read b) (λ n p. refusing n p out) (λ t.
     cond (hasThresholds (t .tree)) (writing (thresholds (t .tree)) (t .tree .nodes * 2) out) (refusing 13 0 out))
+
+-- A fresh state into a lent buffer. The call returns the number of places.
+unfoldable pub freshCall : List ℕ → Left
+freshCall out = writing fresh places out
 
 -- A granted step leaves the next state, a denied one the state it was given.
 unfoldable pub stepped : List ℕ → Stepped → Left
