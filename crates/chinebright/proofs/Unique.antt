@@ -20,6 +20,8 @@ use Rattle.chinebright.proofs.stepping.chinebright_fresh.Kinds as fresh
 use Rattle.chinebright.proofs.stepping.chinebright_fresh.Reads as fresh-reads
 use Rattle.chinebright.proofs.stepping.chinebright_step.Kinds as step-kinds
 use Rattle.chinebright.proofs.stepping.chinebright_step.Reads as step-reads
+use Rattle.chinebright.proofs.chinebright_listing.Kinds as listing-kinds
+use Rattle.chinebright.proofs.chinebright_listing.Reads as listing-reads
 
 -- What two calls leave is the same, so the answers are and the buffers are.
 same-left : {a b : Coded} → a ≡ b → (a .answer ≡ b .answer) × (a .buffer ≡ b .buffer)
@@ -66,3 +68,9 @@ pub chinebright-step-unique :
     (s₁ s₂ : AtExit (endedOf 2 step-kinds.ps step-kinds.r) κs)
     → step-reads.Post κs a r₁ s₁ → step-reads.Post κs a r₂ s₂ → (r₁ ≡ r₂) × (now (s₁ .1 .0) ≡ now (s₂ .1 .0))
 chinebright-step-unique κs a r₁ r₂ s₁ s₂ p q = same-left (p ∙ sym q)
+
+pub chinebright-listing-unique :
+    (κs : Lfts 2) (a : Dens κs listing-kinds.ps) (r₁ r₂ : resT listing-kinds.r κs .Denot)
+    (s₁ s₂ : AtExit (endedOf 2 listing-kinds.ps listing-kinds.r) κs)
+    → listing-reads.Post κs a r₁ s₁ → listing-reads.Post κs a r₂ s₂ → (r₁ ≡ r₂) × (now (s₁ .1 .0) ≡ now (s₂ .1 .0))
+chinebright-listing-unique κs a r₁ r₂ s₁ s₂ p q = same-left (p ∙ sym q)

@@ -1,6 +1,7 @@
 // The C interface: each call answers the refusal's number (0 where there is none) times 2^32, plus the value or the refusal's place.
 mod stepping;
 
+use listing::Written;
 use priorities::Numbered;
 use races::Listed;
 use table::Answer;
@@ -10,6 +11,7 @@ use tree::Preemption;
 ghost use mathlib.Core.Path.{_≡_};
 ghost use Prim.Native.Nat.{_+_, _*_, _<_};
 ghost use Rattle.rules.specs.Calls.{readCall, preemptsCall, racesCall, illegalCall, thresholdsCall};
+ghost use Rattle.rules.specs.Listing.{listingCall};
 ghost use Rattle.table.specs.Answers.{number, place};
 ghost use Rattle.chinebright.specs.Coded.{coded, codedOf, leaves};
 
@@ -73,5 +75,16 @@ pub extern "C" fn chinebright_thresholds(table: &[u8], out: &mut [u8]) -> u64
     match a {
         Numbered::Bytes(n) => n as u64,
         Numbered::Refused(f) => refused(f),
+    }
+}
+
+#[no_mangle]
+pub extern "C" fn chinebright_listing(table: &[u8], out: &mut [u8]) -> u64
+    ensures { λ r. ⌜ leaves r (now (out .exit)) ≡ codedOf (listingCall (now (table .entry)) (now (out .entry))) ⌝ }
+{
+    let a = listing::listing(table, out);
+    match a {
+        Written::Bytes(n) => n as u64,
+        Written::Refused(f) => refused(f),
     }
 }

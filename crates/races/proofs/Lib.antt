@@ -1,4 +1,3 @@
 pub mod Written
 pub mod PairBytes
-pub mod Few
 pub mod Unique

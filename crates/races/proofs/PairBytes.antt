@@ -1,17 +1,18 @@
 -- The bytes of a list of pairs that pass a test p, built up pair by pair and row by row: one turn of each loop, how long a list can be, and
 -- what the whole call answers. Both lists cite these laws.
 -- Assumes nothing.
-use Prim.Native.Nat.{ℕ, zero, suc, _+_, _*_, _/_, _≤_, _<_}
+use Prim.Native.Nat.{ℕ, _+_, _/_, _≤_, _<_}
 use mathlib.Core.Path.{_≡_, refl}
-use mathlib.Core.Bool.{Bool, true, false, cond}
+use mathlib.Core.Bool.{Bool, true, false}
 use mathlib.Core.List.{List, [], _∷_, _++_, append-nil}
 use native.Mathlib.Numerals.{add-one}
-use native.Mathlib.Nat.{suc-mul, mul-le-mul}
+use native.Mathlib.Nat.{mul-le-mul}
 use native.Mathlib.Omega.{arith}
-use lib.ListN.{length, length-append}
+use lib.ListN.{length}
 use borrow.Author.Tests.{le-leb, lt-leb}
 use Rattle.rules.specs.Bounded.{Pair, row, pairs, bytesOf}
 use Rattle.rules.specs.Calls.{writing}
+use Rattle.rules.proofs.FewPairs.{row-few, pairs-few, bytes-length}
 use Rattle.table.specs.declared.Fault.the-variants.{Room}
 use Rattle.table.specs.Answers.{number, place}
 use Rattle.races.specs.declared.Listed.the-variants.{Pairs, Refused}
@@ -23,11 +24,6 @@ bytes-append : (xs ys : List Pair) → bytesOf (xs ++ ys) ≡ bytesOf xs ++ byte
 unfolding bytesOf
 bytes-append [] ys = refl
 bytes-append (x ∷ xs) ys = rw (bytes-append xs ys)
-
-pub bytes-length : (ps : List Pair) → length (bytesOf ps) ≡ 2 * length ps
-unfolding bytesOf
-bytes-length [] = refl
-bytes-length (p ∷ ps) = omega (arith, bytes-length ps)
 
 module _ (p : ℕ → ℕ → Bool) where
   row-one : (i j : ℕ) → p i j ≡ true → bytesOf (row p i (j + 1)) ≡ bytesOf (row p i j) ++ (i ∷ j ∷ [])
@@ -69,27 +65,12 @@ module _ (p : ℕ → ℕ → Bool) where
   pub pairs-ends : {l m : List ℕ} {k at : ℕ} (i n j : ℕ) → i ≡ n → Wrote l k (bytesOf (pairs p i j)) m at → Wrote l k (bytesOf (pairs p n j)) m at
   pairs-ends i n j z f = rw (← z) f
 
-  -- A row has at most one pair for each second number.
-  pub row-short : (i m : ℕ) → length (row p i m) ≤ m
-  unfolding row
-  row-short i zero = omega arith
-  row-short i (suc m) = rw length-append (omega (arith, row-short i m, last (p i m)))
-    where
-      last : (b : Bool) → length {A = Pair} (cond b (record { one = i; two = m } ∷ []) []) ≤ 1
-      last true = omega arith
-      last false = omega arith
-
-  pub pairs-short : (n m : ℕ) → length (pairs p n m) ≤ n * m
-  unfolding pairs
-  pairs-short zero m = omega arith
-  pairs-short (suc n) m = rw length-append (omega (arith, pairs-short n m, row-short n m, suc-mul n m))
-
-  -- So the bytes of numbers that are one byte each are few.
+  -- The bytes of numbers that are one byte each are few.
   pub row-within : (i m : ℕ) → m ≤ 255 → length (bytesOf (row p i m)) ≤ 510
-  row-within i m h = omega (arith, bytes-length (row p i m), row-short i m)
+  row-within i m h = omega (arith, bytes-length (row p i m), row-few p i m)
 
   pub pairs-within : (n m : ℕ) → n ≤ 255 → m ≤ 255 → length (bytesOf (pairs p n m)) ≤ 130050
-  pairs-within n m h k = omega (arith, bytes-length (pairs p n m), pairs-short n m, mul-le-mul h k)
+  pairs-within n m h k = omega (arith, bytes-length (pairs p n m), pairs-few p n m, mul-le-mul h k)
 
 -- What the call answers: the bytes of the pairs ps, written first over another buffer, to know how many they are.
 module _ (ps : List Pair) (l : List ℕ) {e d : List ℕ} {need : ℕ} (w : Wrote e 0 (bytesOf ps) d need) where

@@ -9,13 +9,17 @@ use native.Mathlib.Omega.{arith}
 use lib.Dec.{leb}
 use lib.ListN.{length, drop, length-append}
 use Rattle.rules.specs.Table.{Table}
-use Rattle.rules.specs.Reading.{Reading, Is, Refused, read}
+use Rattle.rules.specs.Reading.{Reading, Is, Refused, byte, read}
 use Rattle.rules.specs.Accepted.{Accepted}
 use Rattle.rules.specs.Preemption.{mayPreempt}
 use Rattle.rules.specs.Priorities.{Walk, shown, walk, thresholds, hasThresholds}
-use Rattle.rules.specs.Calls.{Answer, Value, Refusal, Left, refusing, writing, reading, readCall, preemptsCall, thresholdsCall}
+use Rattle.rules.specs.Calls.{Answer, Value, Refusal, Left, refusing, writing, reading, preemptsCall, racesCall, illegalCall, thresholdsCall}
 use Rattle.rules.proofs.Accepted.{accepted}
+use Rattle.rules.specs.Races.{races, illegals}
+use Rattle.rules.specs.Listing.{findings, writingText, listingCall}
 use Rattle.rules.proofs.Places.{refusal-within}
+use Rattle.rules.proofs.FewPairs.{bytes-length, races-few, illegals-few}
+use Rattle.rules.proofs.ListingRoom.{findings-length}
 
 -- The value, or the place, is at most m.
 abbrev pub Fits : ℕ → Answer → Type 0
@@ -75,3 +79,22 @@ thresholds-fits b out = left-fits b 1253 (omega arith) out _ (λ t ok. side t ok
         let k = ok .tree .few in
         writing-fits 1253 _ _ out (omega arith) (omega arith)
     side t ok false = (unfold refusing in omega arith)
+
+pub races-fits : (b out : List ℕ) → Fits 32768 (racesCall b out .answer)
+unfolding racesCall
+races-fits b out = left-fits b 32768 (omega arith) out _ (λ t ok.
+    let h = races-few t ok in
+    let l = bytes-length (races t) in
+    writing-fits 32768 _ _ out (omega arith) (omega arith))
+
+pub illegal-fits : (b out : List ℕ) → Fits 32768 (illegalCall b out .answer)
+unfolding illegalCall
+illegal-fits b out = left-fits b 32768 (omega arith) out _ (λ t ok.
+    let h = illegals-few t ok in
+    let l = bytes-length (illegals t) in
+    writing-fits 32768 _ _ out (omega arith) (omega arith))
+
+-- Labels are two bytes, where the input is bytes.
+pub listing-fits : (b out : List ℕ) → ((p : ℕ) → byte b p < 256) → Fits 520218 (listingCall b out .answer)
+unfolding listingCall writingText
+listing-fits b out bytes = let h = findings-length b bytes in writing-fits 520218 (findings b) _ out h h

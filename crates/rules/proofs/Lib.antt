@@ -7,7 +7,6 @@ pub mod Reading
 pub mod Accepted
 pub mod Places
 pub mod Lists
-pub mod AnswersFit
 -- The tree and the nearest common scheduler.
 pub mod Nodes
 pub mod Climbs
@@ -36,3 +35,11 @@ pub mod Draining
 pub mod Racing
 pub mod FourSteps
 pub mod RacesAreReached
+-- The listing: numbers, examples, and how much input and room are enough. What every call answers fits 32 bits.
+pub mod Decimal
+pub mod ListingExamples
+pub mod SameStart
+pub mod CutInput
+pub mod FewPairs
+pub mod ListingRoom
+pub mod AnswersFit

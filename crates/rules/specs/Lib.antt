@@ -13,3 +13,5 @@ pub mod Counting
 pub mod Machine
 pub mod Runs
 pub mod Calls
+pub mod Quoted
+pub mod Listing

@@ -1,7 +1,7 @@
 use mathlib.Core.Path.{sym, _∙_, ap}
 use native.Mathlib.Omega.{arith}
 use Rattle.rules.specs.Calls.{Left, refusing}
-use Rattle.chinebright.proofs.ListsFit.{races-fits}
+use Rattle.rules.proofs.AnswersFit.{races-fits}
 use Rattle.races.specs.declared.Listed.{Listed}
 use Rattle.races.specs.Answers.{left}
 use Rattle.chinebright.proofs.Codes.{place-small, value-left, refusal-left}

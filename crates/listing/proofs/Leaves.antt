@@ -1,0 +1,30 @@
+-- The two answers for a text, after a run over another buffer said how many bytes it has.
+-- Assumes nothing.
+use Prim.Native.Nat.{ℕ, _+_, _<_, _≤_}
+use mathlib.Core.Path.{_≡_, refl, ap, _∙_, sym}
+use mathlib.Core.List.{List, _++_}
+use native.Mathlib.Omega.{arith}
+use lib.ListN.{length, drop}
+use borrow.Author.Tests.{lt-leb, le-leb}
+use Rattle.rules.specs.Calls.{writing}
+use Rattle.rules.specs.Listing.{writingText}
+use Rattle.table.specs.Answers.{number, place}
+use Rattle.table.specs.declared.Fault.the-variants.{Room}
+use Rattle.listing.specs.declared.Written.the-variants.{Bytes, Refused}
+use Rattle.listing.specs.Answers.{left}
+use Rattle.races.specs.Writing.{Wrote}
+use Rattle.races.proofs.Written.{from-start}
+
+pub too-short : {e t d : List ℕ} {need : ℕ} (l : List ℕ) → Wrote e 0 t d need → length l < need → left (Refused (Room need)) l ≡ writingText t l
+unfolding left number place writingText writing
+too-short {e} {t} {d} {need} l w h =
+    let p : need ≡ length t = omega (arith, w .place) in
+    let s : length l < length t = omega arith in
+    rw (lt-leb (length t) (length l) s, p)
+
+pub fits : {e t d l m : List ℕ} {need r : ℕ} → Wrote e 0 t d need → need ≤ length l → Wrote l 0 t m r → left (Bytes r) m ≡ writingText t l
+unfolding left writingText writing
+fits {e} {t} {d} {l} {m} {need} {r} w h v =
+    let p : r ≡ length t = omega (arith, v .place) in
+    let s : length t ≤ length l = omega (arith, w .place) in
+    rw (le-leb (length t) (length l) s, p, from-start v s)
