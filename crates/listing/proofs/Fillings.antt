@@ -11,7 +11,7 @@ use Rattle.rules.specs.Bounded.{Pair, bytesOf}
 use Rattle.rules.specs.Table as rules
 use Rattle.rules.specs.Reading.{Is, read}
 use Rattle.rules.specs.Races.{races, illegals}
-use Rattle.rules.specs.Calls.{Left, Answer, Value, Refusal, writing, refusing, reading, racesCall, illegalCall}
+use Rattle.rules.specs.Calls.{Left, Value, Refusal, writing, refusing, reading, racesCall, illegalCall}
 use Rattle.rules.specs.Listing.{text, listing}
 use Rattle.rules.proofs.Accepted.{accepted}
 use Rattle.table.specs.declared.Fault.{Fault}

@@ -8,9 +8,9 @@ use mathlib.Core.List.{List, _++_}
 use native.Mathlib.Omega.{arith}
 use lib.Dec.{leb}
 use lib.ListN.{length, drop, length-append}
-use borrow.Author.Tests.{leb-true, leb-false}
+use borrow.Author.Tests.{leb-false}
 use Rattle.rules.specs.Reading.{byte}
-use Rattle.rules.specs.Calls.{Left, Answer, Value, Refusal, writing, refusing}
+use Rattle.rules.specs.Calls.{Left, Value, Refusal, writing, refusing}
 use Rattle.rules.specs.Listing.{findings, writingText, listingCall}
 use Rattle.rules.proofs.ListingRoom.{findings-length}
 use Rattle.table.specs.declared.Fault.{Fault}

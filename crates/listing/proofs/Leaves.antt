@@ -1,10 +1,10 @@
 -- The two answers for a text, after a run over another buffer said how many bytes it has.
 -- Assumes nothing.
-use Prim.Native.Nat.{ℕ, _+_, _<_, _≤_}
-use mathlib.Core.Path.{_≡_, refl, ap, _∙_, sym}
-use mathlib.Core.List.{List, _++_}
+use Prim.Native.Nat.{ℕ, _<_, _≤_}
+use mathlib.Core.Path.{_≡_}
+use mathlib.Core.List.{List}
 use native.Mathlib.Omega.{arith}
-use lib.ListN.{length, drop}
+use lib.ListN.{length}
 use borrow.Author.Tests.{lt-leb, le-leb}
 use Rattle.rules.specs.Calls.{writing}
 use Rattle.rules.specs.Listing.{writingText}

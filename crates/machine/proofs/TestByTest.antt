@@ -1,4 +1,5 @@
--- One step, test by test: the first test that fails denies it, and where all pass one place changes. x is the task whose step it is.
+-- One step, test by test: the first test that fails denies it, and where all pass one place changes. x is the task whose step it is, and v
+-- what then stands at its place.
 -- Assumes nothing.
 use Prim.Native.Nat.{ℕ}
 use mathlib.Core.Path.{_≡_}
@@ -7,7 +8,7 @@ use mathlib.Core.List.{List}
 use lib.ListN.{set}
 use Rattle.rules.specs.Table.{Table}
 use Rattle.rules.specs.Machine.{place, wellFormed, mayTake, Step, stepper, named, fits, free, next, granting, step}
-use Rattle.rules.specs.Calls.{Value, Left, refusing, stepped}
+use Rattle.rules.specs.Calls.{Value, refusing, stepped}
 
 module _ (t : Table) (s : List ℕ) (c : Step) where
   pub malformed : wellFormed t s ≡ false → stepped s (step t s c) ≡ refusing 14 0 s
@@ -34,6 +35,6 @@ module _ (t : Table) (s : List ℕ) (c : Step) where
           unfolding step granting stepped
           lock-held h = rw (formed, names, ← e, fit, takes, h)
 
-          pub all-pass : free t s c ≡ true → stepped s (step t s c) ≡ record { answer = Value 0; buffer = set s x (next c) }
+          pub all-pass : free t s c ≡ true → (v : ℕ) → v ≡ next c → stepped s (step t s c) ≡ record { answer = Value 0; buffer = set s x v }
           unfolding step granting stepped
-          all-pass h = rw (formed, names, ← e, fit, takes, h)
+          all-pass h v q = rw (formed, names, ← e, fit, takes, h, q)

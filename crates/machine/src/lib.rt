@@ -1,4 +1,5 @@
 // The stepping machine: its state, its steps, and the call that plays one step.
+mod opening;
 mod places;
 mod steps;
 mod taking;

@@ -1,7 +1,7 @@
 // What a step names, asks for and leaves.
 use crate::State;
 use crate::Step;
-use crate::taking::unblocked;
+use crate::opening::unblocked;
 use table::Table;
 use table::bytes::wide;
 ghost use mathlib.Core.Path.{_≡_};

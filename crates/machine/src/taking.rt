@@ -1,7 +1,6 @@
-// What the other tasks allow: taking the processor, and opening an access.
+// Taking the processor: what every other active task allows.
 use crate::State;
 use crate::places::held;
-use locks::blocked;
 use locks::masked;
 use table::Table;
 use table::bytes::wide;
@@ -11,8 +10,8 @@ ghost use mathlib.Core.Bool.{not, _&&_, _||_};
 ghost use Prim.Native.Nat.{_<_, _≤_};
 ghost use lib.Dec.{eqb};
 ghost use Rattle.rules.specs.Preemption.{mayPreempt};
-ghost use Rattle.rules.specs.Locks.{masked, blocked};
-ghost use Rattle.rules.specs.Machine.{idle, held, mayTake, unblocked};
+ghost use Rattle.rules.specs.Locks.{masked};
+ghost use Rattle.rules.specs.Machine.{idle, held, mayTake};
 ghost use Rattle.table.specs.Answers.{shown};
 
 // Task x may take the processor from task u, at whose place v stands.
@@ -35,7 +34,7 @@ fn yields(t: Table, s: &[u8], x: usize, u: usize, v: u8) -> bool
 
 // Task x may take the processor.
 pub(crate) fn may_take(t: Table, s: &[u8], p: &[u8; 128], x: usize) -> bool
-    requires { ⌜ (t .nodes ≤ 128) × (t .locks ≤ 32) × (x < 128) ⌝ }
+    requires { ⌜ (t .nodes ≤ 128) × (t .locks ≤ 32) × (x < t .nodes) ⌝ }
     ensures { λ r. ⌜ r ≡ mayTake (shown t (now (s .entry))) (now (p .entry)) x ⌝ }
 {
     let count = wide(t.nodes);
@@ -43,40 +42,6 @@ pub(crate) fn may_take(t: Table, s: &[u8], p: &[u8; 128], x: usize) -> bool
     while u < count {
         let v = p[u];
         if !yields(t, s, x, u, v) {
-            return false;
-        }
-        u += 1;
-    }
-    true
-}
-
-// No blocking lock of the set is in the set of the open access of task u, other than x, at whose place v stands.
-fn parts(t: Table, s: &[u8], set: u32, x: usize, u: usize, v: u8) -> bool
-    requires { ⌜ t .locks ≤ 32 ⌝ }
-    ensures { λ r. ⌜ r ≡ (eqb u x || not (blocked (shown t (now (s .entry))) set (held (shown t (now (s .entry))) v))) ⌝ }
-{
-    if u == x {
-        return true;
-    }
-    if v < State::INSIDE {
-        return true;
-    }
-    let other = held(t, s, v);
-    !blocked(t, s, set, other)
-}
-
-// No blocking lock of access i is in the set of another task's open access.
-pub(crate) fn unblocked(t: Table, s: &[u8], p: &[u8; 128], i: usize) -> bool
-    requires { ⌜ (t .nodes ≤ 128) × (t .locks ≤ 32) × (i < 256) ⌝ }
-    ensures { λ r. ⌜ r ≡ unblocked (shown t (now (s .entry))) (now (p .entry)) i ⌝ }
-{
-    let x = t.task_of(s, i);
-    let set = t.lock_set(s, i);
-    let count = wide(t.nodes);
-    let mut u = 0;
-    while u < count {
-        let v = p[u];
-        if !parts(t, s, set, x, u, v) {
             return false;
         }
         u += 1;

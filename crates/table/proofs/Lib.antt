@@ -1,4 +1,4 @@
-pub mod Laws
+pub mod SetBits
 pub mod Shown
 pub mod SectionLaws
 pub mod Chain

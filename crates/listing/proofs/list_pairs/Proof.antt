@@ -1,3 +1,4 @@
+-- The first run, over an empty buffer, says how many bytes the text has; the second writes them where they fit.
 use native.Mathlib.Omega.{arith}
 use Rattle.listing.proofs.Leaves.{too-short, fits}
 use borrow.Author.Needs.{needs}

@@ -1,3 +1,4 @@
+-- The pairs that stand in the bytes that were found are the races and the illegal pairs of the table.
 use mathlib.Core.Path.{ap, _∙_}
 use mathlib.Core.List.{List}
 use Prim.Native.Nat.{ℕ}

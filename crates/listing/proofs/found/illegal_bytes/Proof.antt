@@ -1,3 +1,4 @@
+-- The buffer holds all the illegal pairs that a table can have, so the call is not refused.
 use native.Mathlib.Omega.{arith}
 use Rattle.listing.proofs.Fillings.{illegals-fit, illegals-filled, illegals-never}
 use borrow.Author.Needs.{needs}

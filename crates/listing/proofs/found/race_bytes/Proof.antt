@@ -1,3 +1,4 @@
+-- The buffer holds all the races that a table can have, so the call is not refused.
 use native.Mathlib.Omega.{arith}
 use Rattle.listing.proofs.Fillings.{races-fit, races-filled, races-never}
 use borrow.Author.Needs.{needs}

@@ -1,3 +1,4 @@
+-- What is still to be written is the lines of the pairs that are left, two bytes a pair.
 use native.Mathlib.Omega.{arith}
 use borrow.Author.Needs.{needs}
 use Prim.Native.Nat.{_≤_, _<_, _-_, _+_, _*_, _/_}

@@ -1,3 +1,4 @@
+-- The digits of the tens, and then the last: `decimal` unfolds once. The number falls at each call.
 use Rattle.listing.proofs.text.put.Reads as put-reads
 use native.Mathlib.Omega.{arith}
 use borrow.Author.Needs.{needs}

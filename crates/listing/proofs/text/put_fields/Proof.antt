@@ -1,3 +1,4 @@
+-- What is still to be written is the fields of the numbers that are left; a turn writes a space and a number.
 use native.Mathlib.Omega.{arith}
 use borrow.Author.Needs.{needs}
 use Prim.Native.Nat.{_≤_, _-_, _+_, _*_}

@@ -1,10 +1,10 @@
+-- Each return is the denial of the first test that fails; where all pass, the next value stands at the task's place.
 use Rattle.table.specs.Answers.{number, place}
 use Rattle.table.proofs.Shown.{nodes-shown, locks-shown}
 use Rattle.machine.specs.Answers.{answered, left}
 use mathlib.Core.Path.{sym, _∙_}
-use native.Mathlib.Omega.{arith}
 use Rattle.machine.proofs.Passed.{passes, fails}
-use Rattle.machine.proofs.Steppers.{has-place, next-byte}
+use Rattle.machine.proofs.Steppers.{has-place, is-shown-node, next-byte}
 use Rattle.machine.proofs.TestByTest.{malformed, unnamed, out-of-phase, not-to-take, lock-held, all-pass}
 use borrow.Author.Needs.{needs}
 use Rattle.machine.proofs.State.played.Statement.{statement}
@@ -72,7 +72,7 @@ may-take-requires c κs =
     let a = n .before .before .before .before .before .before .before in (
       rw nodes-shown at (a .pre .tree .few),
       rw locks-shown at (a .pre .fewLocks),
-      rw (x .stepper .ensures) (has-place _ (a .pre) _ (passes (n .before .named .ensures) (n .if2 .left))),
+      rw (x .stepper .ensures) (is-shown-node _ _ (a .pre) _ (passes (n .before .named .ensures) (n .if2 .left))),
     )
 
 refused-requires-4 : tie.Need-refused-requires-4
@@ -148,7 +148,7 @@ returns-6 c =
     let x = f .before .before in
     let n = x .before in
     let w = n .before .before in
-    rw (c .next .ensures) (sym (
+    sym (
     all-pass _ _ _
     (passes (w .before .well-formed .ensures) (w .if1 .left))
     (passes (n .before .named .ensures) (n .if2 .left))
@@ -156,7 +156,8 @@ returns-6 c =
     (passes (f .before .fits2 .ensures) (f .if3 .left))
     (passes (m .before .may-take .ensures) (m .if4 .left))
     (passes (h .before .free .ensures) (h .if5 .left))
-    ))
+    _ (c .next .ensures)
+    )
 
 pub played-spec : {M : Type 1} → statement M
 played-spec =

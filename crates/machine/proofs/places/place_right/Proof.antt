@@ -1,3 +1,4 @@
+-- What is neither 0 nor 1 is 2 or more.
 use Prim.Native.Nat.{ℕ, _-_, _<_, _≤_}
 use mathlib.Core.Logic.{_≢_}
 use native.Mathlib.Omega.{arith}

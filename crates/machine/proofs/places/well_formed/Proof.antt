@@ -1,9 +1,7 @@
 use Rattle.machine.proofs.Passed.{passes, fails}
-use lib.ListN.{length}
 use borrow.Author.Tests.{eq-eqb}
-use Rattle.rules.proofs.Bools.{and-both, not-true, not-false}
 use Prim.Native.Nat.{_-_, _≤_}
-use mathlib.Core.Path.{_≡_, sym, _∙_}
+use mathlib.Core.Path.{_≡_, sym}
 use mathlib.Core.Bool.{true}
 use native.Mathlib.Omega.{arith}
 use borrow.Author.Needs.{needs}

@@ -8,7 +8,7 @@ use Rattle.rules.specs.Bounded.{allBelow}
 use Rattle.rules.specs.Preemption.{mayPreempt}
 use Rattle.rules.specs.Locks.{masked}
 use Rattle.rules.specs.Machine.{place, idle, held, mayTake}
-use Rattle.rules.proofs.Bools.{not-true, not-false}
+use Rattle.machine.proofs.Passed.{passes, fails}
 use Rattle.table.specs.Answers.{shown}
 use Rattle.table.proofs.Shown.{nodes-shown}
 use Rattle.machine.proofs.AllTested.{all-yet, all-here, failed, all}
@@ -38,8 +38,7 @@ unfolding mayTake
 returns c =
     let m = c .before in
     let l = m .before .before in
-    let e = sym (m .yields .ensures) ∙ not-true (m .yields .result) (c .if1 .taken) in
-    sym (failed _ _ _ (rw (l .before .loop .inv .1) at (l .loop-test .taken)) e)
+    sym (failed _ _ _ (rw (l .before .loop .inv .1) at (l .loop-test .taken)) (fails (m .yields .ensures) (c .if1 .taken)))
 
 add-u : tie.Need-add-u Inv-loop μ-loop
 add-u c = omega arith
@@ -51,8 +50,7 @@ loop-again : tie.Need-loop-again Inv-loop μ-loop
 loop-again c =
     let m = c .before in
     let l = m .before .before .before in
-    let e = sym (m .yields .ensures) ∙ not-false (m .yields .result) (c .if1 .left) in
-    (omega arith, l .loop .inv .1, all-here _ _ (l .loop .inv .2) e)
+    (omega arith, l .loop .inv .1, all-here _ _ (l .loop .inv .2) (passes (m .yields .ensures) (c .if1 .left)))
 
 returns-2 : tie.Need-returns-2 Inv-loop μ-loop
 unfolding mayTake

@@ -1,4 +1,4 @@
-use Rattle.table.proofs.Laws.{no-bit-above, all-below}
+use Rattle.table.proofs.SetBits.{no-bit-above, all-below}
 use mathlib.Core.Path.{sym}
 use borrow.Author.Needs.{needs}
 use Rattle.table.proofs.records.set_within.Statement.{statement}

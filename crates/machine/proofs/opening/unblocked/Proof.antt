@@ -7,12 +7,12 @@ use borrow.Author.Needs.{needs}
 use Rattle.rules.specs.Bounded.{allBelow}
 use Rattle.rules.specs.Locks.{blocked}
 use Rattle.rules.specs.Machine.{place, held, unblocked}
-use Rattle.rules.proofs.Bools.{not-true, not-false}
+use Rattle.machine.proofs.Passed.{passes, fails}
 use Rattle.table.specs.Answers.{shown}
 use Rattle.table.proofs.Shown.{nodes-shown}
 use Rattle.machine.proofs.AllTested.{all-yet, all-here, failed, all}
-use Rattle.machine.proofs.taking.unblocked.Statement.{statement}
-use Rattle.machine.proofs.taking.unblocked.Tie as tie
+use Rattle.machine.proofs.opening.unblocked.Statement.{statement}
+use Rattle.machine.proofs.opening.unblocked.Tie as tie
 
 abbrev Inv-loop : tie.InvT-loop
 Inv-loop t s p i x set count u₀ u = (u ≤ count) × (count ≡ shown t s .tree .nodes) × (allBelow u (λ k. eqb k x || not (blocked (shown t s) set (held (shown t s) (place p k)))) ≡ true)
@@ -35,8 +35,8 @@ loop-holds c = (omega arith, c .wide .ensures .0 ∙ sym (nodes-shown _ _), all-
 element-copy-out-v : tie.Need-element-copy-out-v Inv-loop μ-loop
 element-copy-out-v c = omega arith
 
-parts-requires : tie.Need-parts-requires Inv-loop μ-loop
-parts-requires c κs = omega arith
+lets-open-requires : tie.Need-lets-open-requires Inv-loop μ-loop
+lets-open-requires c κs = omega arith
 
 returns : tie.Need-returns Inv-loop μ-loop
 unfolding unblocked
@@ -44,9 +44,8 @@ returns c =
     let m = c .before in
     let l = m .before .before in
     let k = l .before .before .before in
-    let e = sym (m .parts .ensures) ∙ not-true (m .parts .result) (c .if1 .taken) in
     rw (← k .before .task-of .ensures .0, ← k .lock-set .ensures)
-    (sym (failed _ _ _ (rw (l .before .loop .inv .1) at (l .loop-test .taken)) e))
+    (sym (failed _ _ _ (rw (l .before .loop .inv .1) at (l .loop-test .taken)) (fails (m .lets-open .ensures) (c .if1 .taken))))
 
 add-u : tie.Need-add-u Inv-loop μ-loop
 add-u c = omega arith
@@ -58,15 +57,14 @@ loop-again : tie.Need-loop-again Inv-loop μ-loop
 loop-again c =
     let m = c .before in
     let l = m .before .before .before in
-    let e = sym (m .parts .ensures) ∙ not-false (m .parts .result) (c .if1 .left) in
-    (omega arith, l .loop .inv .1, all-here _ _ (l .loop .inv .2) e)
+    (omega arith, l .loop .inv .1, all-here _ _ (l .loop .inv .2) (passes (m .lets-open .ensures) (c .if1 .left)))
 
 returns-2 : tie.Need-returns-2 Inv-loop μ-loop
 unfolding unblocked
 returns-2 c =
     let l = c .before in
     let k = l .before .before in
-    simp (← k .before .task-of .ensures .0, ← k .lock-set .ensures) (sym (all _ _ _ (omega arith) (l .loop .inv .2)))
+    rw (← k .before .task-of .ensures .0, ← k .lock-set .ensures) (sym (all _ _ _ (omega arith) (l .loop .inv .2)))
 
 pub unblocked-spec : {M : Type 1} → statement M
 unblocked-spec =
@@ -79,7 +77,7 @@ unblocked-spec =
     wide-requires
     loop-holds
     element-copy-out-v
-    parts-requires
+    lets-open-requires
     returns
     add-u
     loop-less

@@ -1,9 +1,10 @@
+-- A task that is not inside holds the empty set, which shares no lock.
 use borrow.Author.Tests.{eq-eqb, ne-eqb, lt-leb}
 use Rattle.rules.specs.Machine.{held}
 use Rattle.machine.proofs.EmptySets.{empty-free}
 use borrow.Author.Needs.{needs}
-use Rattle.machine.proofs.taking.parts.Statement.{statement}
-use Rattle.machine.proofs.taking.parts.Tie as tie
+use Rattle.machine.proofs.opening.lets_open.Statement.{statement}
+use Rattle.machine.proofs.opening.lets_open.Tie as tie
 
 returns : tie.Need-returns
 returns c = rw (eq-eqb _ _ (c .if1 .taken))
@@ -21,5 +22,5 @@ blocked-requires c κs = search needs
 returns-3 : tie.Need-returns-3
 returns-3 c = rw (ne-eqb _ _ (c .before .before .before .if1 .left), c .blocked .ensures, c .before .held .ensures)
 
-pub parts-spec : {M : Type 1} → statement M
-parts-spec = tie.close (tie.spec returns returns-2 held-requires blocked-requires returns-3)
+pub lets-open-spec : {M : Type 1} → statement M
+lets-open-spec = tie.close (tie.spec returns returns-2 held-requires blocked-requires returns-3)
