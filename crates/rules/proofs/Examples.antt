@@ -1,4 +1,5 @@
--- The examples of document 01 that are marked P, each under the document's own words, closed by computation.
+-- The examples of document 01 that are marked P, and the first of its 'errors that look right', each under the document's own words, closed
+-- by computation.
 -- Assumes nothing.
 use Prim.Native.Nat.{ℕ}
 use mathlib.Core.Path.{_≡_, refl}
@@ -27,9 +28,19 @@ tableW =
 unfoldable pub tableV : List ℕ
 tableV = 1 ∷ 8 ∷ 0 ∷ 1 ∷ 0 ∷ 3 ∷ 0 ∷ 0 ∷ 0 ∷ 2 ∷ 1 ∷ 0 ∷ 1 ∷ 0 ∷ 3 ∷ 0 ∷ 3 ∷ 0 ∷ 0 ∷ 0 ∷ 0 ∷ []
 
+-- Two time-sliced threads, tasks 3 and 4, that both mask the interrupt, task 1.
+unfoldable pub tableSlices : List ℕ
+tableSlices =
+    1
+    ∷ 5 ∷ 0 ∷ 1 ∷ 0 ∷ 0 ∷ 0 ∷ 4 ∷ 2 ∷ 0 ∷ 2 ∷ 0
+    ∷ 1 ∷ 0 ∷ 1 ∷ 1
+    ∷ 1 ∷ 0 ∷ 7
+    ∷ 2 ∷ 3 ∷ 0 ∷ 0 ∷ 0 ∷ 0 ∷ 1 ∷ 4 ∷ 0 ∷ 0 ∷ 0 ∷ 0 ∷ 1
+    ∷ []
+
 -- To unfold one of these is to unfold all that it takes to read, to list, to number and to run.
 toRead : List ℕ → Reading
-unfolding tableW tableV read concluded firstFault formSection nodeSection lockSection resourceSection accessSection endSection countCheck nodeCheck lockCheck resourceCheck accessCheck nodeFault lockFault accessFault countsIn parentRight coveredRight due each unless _andThen_ tableOf countsOf tableAt isTask isScheduler isChild
+unfolding tableW tableV tableSlices read concluded firstFault formSection nodeSection lockSection resourceSection accessSection endSection countCheck nodeCheck lockCheck resourceCheck accessCheck nodeFault lockFault accessFault countsIn parentRight coveredRight due each unless _andThen_ tableOf countsOf tableAt isTask isScheduler isChild
 toRead b = read b
 
 toList : List ℕ → List ℕ → Left
@@ -71,6 +82,15 @@ W-masked = refl
 pub W-mask-covers : masked (tableOf tableW) (tableOf tableW .lockSet 1) (tableOf tableW .taskOf 0) ≡ true
 unfolding toList
 W-mask-covers = refl
+
+-- Two time-sliced threads that both mask interrupts still race, in both orders.
+pub slices-read : read tableSlices ≡ Is (tableOf tableSlices)
+unfolding toRead
+slices-read = refl
+
+pub slices-race : bytesOf (races (tableOf tableSlices)) ≡ 0 ∷ 1 ∷ 1 ∷ 0 ∷ []
+unfolding toList
+slices-race = refl
 
 -- Empty input, refusal 1 at 0.
 pub empty-input : read [] ≡ Refused 1 0
