@@ -12,8 +12,8 @@ use Rattle.table.specs.Answers.{number, place}
 use Rattle.table.specs.declared.Fault.the-variants.{Room}
 use Rattle.listing.specs.declared.Written.the-variants.{Bytes, Refused}
 use Rattle.listing.specs.Answers.{left}
-use Rattle.races.specs.Writing.{Wrote}
-use Rattle.races.proofs.Written.{from-start}
+use Rattle.rows.specs.Writing.{Wrote}
+use Rattle.rows.proofs.Written.{from-start}
 
 pub too-short : {e t d : List ℕ} {need : ℕ} (l : List ℕ) → Wrote e 0 t d need → length l < need → left (Refused (Room need)) l ≡ writingText t l
 unfolding left number place writingText writing

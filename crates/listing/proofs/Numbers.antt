@@ -5,8 +5,8 @@ use mathlib.Core.List.{List, [], _∷_}
 use native.Mathlib.Omega.{arith}
 use Rattle.rules.specs.Listing.{decimal}
 use Rattle.rules.proofs.Decimal.{decimal-last, decimal-more, decimal-few}
-use Rattle.races.specs.Writing.{Wrote}
-use Rattle.races.proofs.Written.{next}
+use Rattle.rows.specs.Writing.{Wrote}
+use Rattle.rows.proofs.Written.{next}
 
 pub number-last : {l m : List ℕ} {k n r : ℕ} → n < 10 → Wrote l k ((48 + n) ∷ []) m r → Wrote l k (decimal n) m r
 number-last {n = n} h w = rw (decimal-last n h) w

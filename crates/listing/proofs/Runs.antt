@@ -3,8 +3,8 @@
 use Prim.Native.Nat.{ℕ}
 use mathlib.Core.Path.{_≡_, refl, ap, _∙_, sym}
 use mathlib.Core.List.{List, [], _++_, append-assoc, append-nil}
-use Rattle.races.specs.Writing.{Wrote}
-use Rattle.races.proofs.Written.{none, next}
+use Rattle.rows.specs.Writing.{Wrote}
+use Rattle.rows.proofs.Written.{none, next}
 
 -- Of the text vs, written from the place k of l on, rest is still to be written from the place w of m on.
 pub record Rest (l : List ℕ) (k : ℕ) (vs : List ℕ) (m : List ℕ) (w : ℕ) (rest : List ℕ) : Type 0 where

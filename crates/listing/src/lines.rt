@@ -7,7 +7,7 @@ ghost use Prim.Native.Nat.{_+_, _*_, _<_, _≤_};
 ghost use lib.ListN.{length};
 ghost use Rattle.rules.specs.Listing.{raceLine, illegalLine, lines, section, text};
 ghost use Rattle.table.specs.Answers.{shown};
-ghost use Rattle.races.specs.Writing.{Wrote};
+ghost use Rattle.rows.specs.Writing.{Wrote};
 ghost use Rattle.listing.specs.Pairs.{pair, pairsOf, pairLine};
 
 fn put_race(out: &mut [u8], k: usize, t: Table, s: &[u8], i: u8, j: u8) -> usize

@@ -6,7 +6,7 @@ use table::Fault;
 ghost use mathlib.Core.Path.{_≡_};
 ghost use Rattle.rules.specs.Listing.{refusedLine, writingText};
 ghost use Rattle.table.specs.Answers.{number, place};
-ghost use Rattle.races.specs.Writing.{Wrote};
+ghost use Rattle.rows.specs.Writing.{Wrote};
 ghost use Rattle.listing.specs.Answers.{left};
 
 fn put_refused(out: &mut [u8], f: Fault) -> usize

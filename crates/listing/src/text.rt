@@ -5,7 +5,7 @@ ghost use mathlib.Core.List.{[], _∷_, _++_};
 ghost use Prim.Native.Nat.{_+_, _*_, _<_, _≤_};
 ghost use lib.ListN.{length};
 ghost use Rattle.rules.specs.Listing.{decimal, fields, line};
-ghost use Rattle.races.specs.Writing.{Wrote};
+ghost use Rattle.rows.specs.Writing.{Wrote};
 
 fn put(out: &mut [u8], k: usize, b: u8) -> usize
     requires { ⌜ k < 4294967296 ⌝ }

@@ -1,3 +1,2 @@
-pub mod Written
-pub mod PairBytes
+pub mod ListAnswers
 pub mod Unique

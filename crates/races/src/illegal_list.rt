@@ -1,61 +1,69 @@
-// The list of illegal pairs: counted over an empty buffer, then written where there is room.
+// The list of illegal pairs: the illegal locks of each access as a word, counted, then written where there is room.
 use crate::Listed;
-use crate::buffer::put_pair;
-use crate::is_illegal;
+use rows::illegal::illegal_rows;
+use rows::writing::count_row;
+use rows::writing::write_row;
 use table::Fault;
 use table::Table;
 use table::bytes::wide;
 ghost use mathlib.Core.Path.{_≡_};
-ghost use Prim.Native.Nat.{_<_, _≤_};
+ghost use mathlib.Core.List.{[]};
+ghost use Prim.Native.Nat.{_*_, _≤_};
 ghost use lib.ListN.{length};
-ghost use Rattle.rules.specs.Bounded.{row, bytesOf};
-ghost use Rattle.rules.specs.Races.{illegal, illegals};
+ghost use lib.Seq.{sets};
+ghost use Rattle.rules.specs.Accepted.{Accepted};
+ghost use Rattle.rules.specs.Bounded.{bytesOf};
+ghost use Rattle.rules.specs.Races.{illegals};
 ghost use Rattle.rules.specs.Calls.{writing};
 ghost use Rattle.table.specs.Answers.{shown};
+ghost use Rattle.rows.specs.Writing.{rowsOf};
 ghost use Rattle.races.specs.Answers.{left};
-ghost use Rattle.races.specs.Writing.{Wrote};
 
-// The illegal pairs of access i.
-fn illegal_row(t: Table, s: &[u8], i: usize, out: &mut [u8], here: usize) -> usize
-    requires { ⌜ (i < 256) × (t .locks ≤ 32) × (here < 524288) ⌝ }
-    ensures { λ r. ⌜ Wrote (now (out .entry)) here (bytesOf (row (illegal (shown t (now (s .entry)))) i (shown t (now (s .entry)) .locks))) (now (out .exit)) r ⌝ }
+fn word(x: u32) -> u64
+    ensures { λ r. ⌜ r ≡ x ⌝ }
 {
-    let count = wide(t.locks);
-    let mut at = here;
-    let mut k = 0;
-    while k < count {
-        if is_illegal(t, s, i, k) {
-            at = put_pair(out, at, i, k);
-        }
-        k += 1;
-    }
-    at
+    x as u64
 }
 
-fn illegal_rows(t: Table, s: &[u8], out: &mut [u8]) -> usize
-    requires { ⌜ t .locks ≤ 32 ⌝ }
-    ensures { λ r. ⌜ Wrote (now (out .entry)) 0 (bytesOf (illegals (shown t (now (s .entry))))) (now (out .exit)) r ⌝ }
+// How many pairs the first n words have.
+fn count_words(n: usize, words: &[u32; 128]) -> usize
+    requires { ⌜ n ≤ 128 ⌝ }
+    ensures { λ r. ⌜ r ≡ length (rowsOf (now (words .entry)) [] n) ⌝ }
 {
-    let count = wide(t.accesses);
+    let mut count = 0;
+    let mut row = 0;
+    while row < n {
+        count += count_row(word(words[row]), 0);
+        row += 1;
+    }
+    count
+}
+
+// The pairs of the first n words.
+fn write_words(n: usize, words: &[u32; 128], out: &mut [u8])
+    requires { ⌜ (n ≤ 128) × (2 * length (rowsOf (now words) [] n) ≤ length (now out)) ⌝ }
+    ensures { λ _. ⌜ now (out .exit) ≡ sets (now (out .entry)) 0 (bytesOf (rowsOf (now (words .entry)) [] n)) ⌝ }
+{
     let mut at = 0;
     let mut i = 0;
-    while i < count {
-        at = illegal_row(t, s, i, out, at);
+    while i < n {
+        at = write_row(i as u8, word(words[i]), 0, out, at);
         i += 1;
     }
-    at
 }
 
 // The illegal pairs, where there is room for them.
 pub(crate) fn list_illegal(t: Table, s: &[u8], out: &mut [u8]) -> Listed
-    requires { ⌜ t .locks ≤ 32 ⌝ }
+    requires { ⌜ Accepted (shown t (now s)) ⌝ }
     ensures { λ r. ⌜ left r (now (out .exit)) ≡ writing (bytesOf (illegals (shown t (now (s .entry))))) (length (illegals (shown t (now (s .entry))))) (now (out .entry)) ⌝ }
 {
-    let mut none = [0u8; 0];
-    let need = illegal_rows(t, s, &mut none);
-    if out.len() < need {
-        return Listed::Refused(Fault::Room(need));
+    let n = wide(t.accesses);
+    let mut words = [0u32; 128];
+    illegal_rows(t, s, &mut words);
+    let count = count_words(n, &words);
+    if out.len() < 2 * count {
+        return Listed::Refused(Fault::Room(2 * count));
     }
-    let end = illegal_rows(t, s, out);
-    Listed::Pairs(end / 2)
+    write_words(n, &words, out);
+    Listed::Pairs(count)
 }

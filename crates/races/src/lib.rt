@@ -1,5 +1,4 @@
 // Races and illegal locks: the tests, and the two lists, two bytes a pair, into a lent buffer.
-mod buffer;
 mod illegal_list;
 mod race_list;
 

@@ -1,7 +1,6 @@
--- An accepted table has at most 32 locks, as the list asks.
+-- A table that was read is accepted, as the list asks.
 use Rattle.races.specs.Answers.{left}
 use Rattle.rules.specs.Calls.{racesCall, reading}
-use Rattle.table.proofs.Shown.{locks-shown}
 use Rattle.table.proofs.Told.{told-table, told-fault, told-accepted}
 use borrow.Author.Needs.{needs}
 use Rattle.races.proofs.races.Statement.{statement}
@@ -23,7 +22,7 @@ enum-known-a-2 c = search needs
 list-races-requires : tie.Need-list-races-requires
 list-races-requires c κs =
     let a = c .before .before in
-    rw locks-shown at (told-accepted _ _ (a .before .before .read .ensures) _ (a .a2 .given .1) .fewLocks)
+    told-accepted _ _ (a .before .before .read .ensures) _ (a .a2 .given .1)
 
 same-length : tie.Need-same-length
 same-length c = search needs

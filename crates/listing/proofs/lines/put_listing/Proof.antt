@@ -1,6 +1,6 @@
 use Rattle.rules.specs.Listing.{text}
 use Rattle.listing.specs.Pairs.{pairLine}
-use Rattle.races.proofs.Written.{next}
+use Rattle.rows.proofs.Written.{next}
 use borrow.Author.Needs.{needs}
 use Rattle.listing.proofs.lines.put_listing.Statement.{statement}
 use Rattle.listing.proofs.lines.put_listing.Tie as tie

@@ -1,5 +1,5 @@
 use Rattle.rules.specs.Listing.{section}
-use Rattle.races.proofs.Written.{next}
+use Rattle.rows.proofs.Written.{next}
 use Rattle.listing.proofs.Turns.{pairs-count}
 use borrow.Author.Needs.{needs}
 use Rattle.listing.proofs.lines.put_section.Statement.{statement}

@@ -1,5 +1,5 @@
 use Rattle.rules.specs.Listing.{refusedLine}
-use Rattle.races.proofs.Written.{next}
+use Rattle.rows.proofs.Written.{next}
 use borrow.Author.Needs.{needs}
 use Rattle.listing.proofs.refusal.put_refused.Statement.{statement}
 use Rattle.listing.proofs.refusal.put_refused.Tie as tie

@@ -1,5 +1,5 @@
 use mathlib.Core.Path.{refl}
-use Rattle.races.proofs.Written.{one, one-past}
+use Rattle.rows.proofs.Written.{one, one-past}
 use borrow.Author.Needs.{needs}
 use Rattle.listing.proofs.text.put.Statement.{statement}
 use Rattle.listing.proofs.text.put.Tie as tie

@@ -5,7 +5,7 @@ use Prim.Native.Nat.{_≤_, _-_, _+_, _*_}
 use mathlib.Core.Path.{_≡_, refl}
 use lib.ListN.{length, drop}
 use Rattle.rules.specs.Listing.{fields}
-use Rattle.races.proofs.Written.{next}
+use Rattle.rows.proofs.Written.{next}
 use Rattle.listing.proofs.Runs.{Rest, start, go, stop}
 use Rattle.listing.proofs.Turns.{fields-turn, fields-end}
 use Rattle.listing.proofs.text.put_fields.Statement.{statement}

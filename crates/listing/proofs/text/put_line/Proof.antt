@@ -1,5 +1,5 @@
 use Rattle.rules.specs.Listing.{line}
-use Rattle.races.proofs.Written.{next}
+use Rattle.rows.proofs.Written.{next}
 use borrow.Author.Needs.{needs}
 use Rattle.listing.proofs.text.put_line.Statement.{statement}
 use Rattle.listing.proofs.text.put_line.Tie as tie

@@ -1,4 +1,4 @@
-use Rattle.races.proofs.Written.{next}
+use Rattle.rows.proofs.Written.{next}
 use borrow.Author.Needs.{needs}
 use Rattle.listing.proofs.text.put_part.Statement.{statement}
 use Rattle.listing.proofs.text.put_part.Tie as tie

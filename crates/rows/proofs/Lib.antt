@@ -1,0 +1,17 @@
+pub mod Bits
+pub mod Bounds
+pub mod Stores
+pub mod Gathering
+pub mod Preempting
+pub mod Marking
+pub mod Guarding
+pub mod Passing
+pub mod Filling
+pub mod Rowing
+pub mod Halves
+pub mod Unique
+pub mod Inheriting
+pub mod Written
+pub mod Pairs
+pub mod RowPairs
+pub mod Runs
