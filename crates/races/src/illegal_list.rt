@@ -61,8 +61,9 @@ pub(crate) fn list_illegal(t: Table, s: &[u8], out: &mut [u8]) -> Listed
     let mut words = [0u32; 128];
     illegal_rows(t, s, &mut words);
     let count = count_words(n, &words);
-    if out.len() < 2 * count {
-        return Listed::Refused(Fault::Room(2 * count));
+    let need = 2 * count;
+    if out.len() < need {
+        return Listed::Refused(Fault::Room(need));
     }
     write_words(n, &words, out);
     Listed::Pairs(count)

@@ -55,8 +55,9 @@ pub(crate) fn list_races(t: Table, s: &[u8], out: &mut [u8]) -> Listed
     let mut high = [0u64; 128];
     race_rows(t, s, &mut low, &mut high);
     let count = count_rows(n, &low, &high);
-    if out.len() < 2 * count {
-        return Listed::Refused(Fault::Room(2 * count));
+    let need = 2 * count;
+    if out.len() < need {
+        return Listed::Refused(Fault::Room(need));
     }
     write_rows(n, &low, &high, out);
     Listed::Pairs(count)

@@ -42,14 +42,11 @@ count-words-requires c κs =
     let a = c .before .before .before .before .before .before in
     omega (arith, few-accesses _ _ (a .pre))
 
-mul-if1 : tie.Need-mul-if1
-mul-if1 c = omega (arith, few c)
-
-mul-t13 : tie.Need-mul-t13
-mul-t13 c = omega (arith, few (c .before))
+mul-need : tie.Need-mul-need
+mul-need c = omega (arith, few c)
 
 returns : tie.Need-returns
-returns c = no-room _ _ (counted (c .before)) (c .if1 .taken)
+returns c = no-room _ _ (counted (c .before)) (omega arith)
 
 write-words-requires : tie.Need-write-words-requires
 write-words-requires c κs =
@@ -73,8 +70,7 @@ list-illegal-spec =
     wide-requires
     illegal-rows-requires
     count-words-requires
-    mul-if1
-    mul-t13
+    mul-need
     returns
     write-words-requires
     same-length

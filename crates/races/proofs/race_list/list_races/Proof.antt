@@ -42,14 +42,11 @@ count-rows-requires c κs =
     let a = c .before .before .before .before .before .before .before .before in
     omega (arith, few-accesses _ _ (a .pre))
 
-mul-if1 : tie.Need-mul-if1
-mul-if1 c = omega (arith, few c)
-
-mul-t16 : tie.Need-mul-t16
-mul-t16 c = omega (arith, few (c .before))
+mul-need : tie.Need-mul-need
+mul-need c = omega (arith, few c)
 
 returns : tie.Need-returns
-returns c = no-room _ _ (counted (c .before)) (c .if1 .taken)
+returns c = no-room _ _ (counted (c .before)) (omega arith)
 
 write-rows-requires : tie.Need-write-rows-requires
 write-rows-requires c κs =
@@ -73,8 +70,7 @@ list-races-spec =
     wide-requires
     race-rows-requires
     count-rows-requires
-    mul-if1
-    mul-t16
+    mul-need
     returns
     write-rows-requires
     same-length
