@@ -1,4 +1,4 @@
--- A buffer that holds all the pairs of a list: the call that lists them is not refused, and its bytes are the pairs' bytes.
+-- A buffer that holds all the pairs of a list: the list is not refused, and its bytes are the pairs' bytes.
 -- Assumes nothing.
 use Prim.Native.Nat.{ℕ, _+_, _*_, _≤_}
 use mathlib.Core.Path.{_≡_, refl, sym, _∙_, ap}
@@ -9,11 +9,10 @@ use lib.Seq.{take-append-seam, length-take-le}
 use borrow.Author.Tests.{le-leb}
 use Rattle.rules.specs.Bounded.{Pair, bytesOf}
 use Rattle.rules.specs.Table as rules
-use Rattle.rules.specs.Reading.{Is, read}
+use Rattle.rules.specs.Accepted.{Accepted}
 use Rattle.rules.specs.Races.{races, illegals}
-use Rattle.rules.specs.Calls.{Left, Value, Refusal, writing, refusing, reading, racesCall, illegalCall}
+use Rattle.rules.specs.Calls.{Left, Value, Refusal, writing, refusing}
 use Rattle.rules.specs.Listing.{text, listing}
-use Rattle.rules.proofs.Accepted.{accepted}
 use Rattle.table.specs.declared.Fault.{Fault}
 use Rattle.table.specs.Answers.{number, place}
 use Rattle.races.specs.declared.Listed.{Listed}
@@ -59,41 +58,33 @@ module _ (ps : List Pair) (l m : List ℕ) (room : 2 * length ps ≤ length l) (
       let z : _≡_ {A = ℕ} 0 1 = cc in
       omega arith
 
--- The two lists of the table t that the bytes b are.
-module _ (b l m : List ℕ) (t : rules.Table) (e : read b ≡ Is t) (a : Listed) where
-  module _ (room : 32768 ≤ length l) (w : left a m ≡ racesCall b l) where
-    races-listed : left a m ≡ writing (bytesOf (races t)) (length (races t)) l
-    unfolding racesCall reading
-    races-listed = rw e at w
-
+-- The two lists of an accepted table t.
+module _ (l m : List ℕ) (t : rules.Table) (ok : Accepted t) (a : Listed) where
+  module _ (room : 32768 ≤ length l) (w : left a m ≡ writing (bytesOf (races t)) (length (races t)) l) where
     races-room : 2 * length (races t) ≤ length l
-    races-room = omega (arith, races-few t (accepted b t e))
+    races-room = omega (arith, races-few t ok)
 
     pub races-fit : (n : ℕ) → a ≡ Pairs n → 2 * n ≤ 32768
-    races-fit n q = omega (arith, count (races t) l m races-room a races-listed n q, races-few t (accepted b t e))
+    races-fit n q = omega (arith, count (races t) l m races-room a w n q, races-few t ok)
 
     pub races-filled : (n : ℕ) → a ≡ Pairs n → Filled (bytesOf (races t)) m (2 * n)
-    races-filled = filled (races t) l m races-room a races-listed
+    races-filled = filled (races t) l m races-room a w
 
     pub races-never : (f : Fault) → a ≡ Refused f → ⊥
-    races-never = never (races t) l m races-room a races-listed
+    races-never = never (races t) l m races-room a w
 
-  module _ (room : 8192 ≤ length l) (w : left a m ≡ illegalCall b l) where
-    illegals-listed : left a m ≡ writing (bytesOf (illegals t)) (length (illegals t)) l
-    unfolding illegalCall reading
-    illegals-listed = rw e at w
-
+  module _ (room : 8192 ≤ length l) (w : left a m ≡ writing (bytesOf (illegals t)) (length (illegals t)) l) where
     illegals-room : 2 * length (illegals t) ≤ length l
-    illegals-room = omega (arith, illegals-few t (accepted b t e))
+    illegals-room = omega (arith, illegals-few t ok)
 
     pub illegals-fit : (n : ℕ) → a ≡ Pairs n → 2 * n ≤ 8192
-    illegals-fit n q = omega (arith, count (illegals t) l m illegals-room a illegals-listed n q, illegals-few t (accepted b t e))
+    illegals-fit n q = omega (arith, count (illegals t) l m illegals-room a w n q, illegals-few t ok)
 
     pub illegals-filled : (n : ℕ) → a ≡ Pairs n → Filled (bytesOf (illegals t)) m (2 * n)
-    illegals-filled = filled (illegals t) l m illegals-room a illegals-listed
+    illegals-filled = filled (illegals t) l m illegals-room a w
 
     pub illegals-never : (f : Fault) → a ≡ Refused f → ⊥
-    illegals-never = never (illegals t) l m illegals-room a illegals-listed
+    illegals-never = never (illegals t) l m illegals-room a w
 
 -- The text of the pairs that were found is the table's.
 pub text-found :

@@ -1,21 +1,22 @@
 // The races and the illegal pairs of a table, two bytes a pair, into buffers that hold all that a table can have.
 use races::Listed;
+use races::illegal_list::list_illegal;
+use races::race_list::list_races;
 use table::Table;
-ghost use mathlib.Core.Path.{_≡_};
 ghost use Prim.Native.Nat.{_≤_};
 ghost use lib.ListN.{length};
+ghost use Rattle.rules.specs.Accepted.{Accepted};
 ghost use Rattle.rules.specs.Bounded.{bytesOf};
-ghost use Rattle.rules.specs.Reading.{Is, read};
 ghost use Rattle.rules.specs.Races.{races, illegals};
 ghost use Rattle.table.specs.Answers.{shown};
 ghost use Rattle.listing.specs.Pairs.{Filled};
 
 // The bytes that the races of t take.
 pub(crate) fn race_bytes(t: Table, s: &[u8], out: &mut [u8]) -> usize
-    requires { ⌜ (read (now s) ≡ Is (shown t (now s))) × (32768 ≤ length (now out)) ⌝ }
+    requires { ⌜ (Accepted (shown t (now s))) × (32768 ≤ length (now out)) ⌝ }
     ensures { λ r. ⌜ Filled (bytesOf (races (shown t (now (s .entry))))) (now (out .exit)) r ⌝ }
 {
-    let a = races::races(s, out);
+    let a = list_races(t, s, out);
     match a {
         Listed::Pairs(n) => 2 * n,
         Listed::Refused(_) => 0,
@@ -24,10 +25,10 @@ pub(crate) fn race_bytes(t: Table, s: &[u8], out: &mut [u8]) -> usize
 
 // The bytes that the illegal pairs of t take.
 pub(crate) fn illegal_bytes(t: Table, s: &[u8], out: &mut [u8]) -> usize
-    requires { ⌜ (read (now s) ≡ Is (shown t (now s))) × (8192 ≤ length (now out)) ⌝ }
+    requires { ⌜ (Accepted (shown t (now s))) × (8192 ≤ length (now out)) ⌝ }
     ensures { λ r. ⌜ Filled (bytesOf (illegals (shown t (now (s .entry))))) (now (out .exit)) r ⌝ }
 {
-    let a = races::illegal(s, out);
+    let a = list_illegal(t, s, out);
     match a {
         Listed::Pairs(n) => 2 * n,
         Listed::Refused(_) => 0,

@@ -14,7 +14,7 @@ use table::Table;
 ghost use mathlib.Core.Path.{_≡_};
 ghost use Prim.Native.Nat.{_≤_};
 ghost use lib.ListN.{length};
-ghost use Rattle.rules.specs.Reading.{Is, read};
+ghost use Rattle.rules.specs.Accepted.{Accepted};
 ghost use Rattle.rules.specs.Listing.{text, listing, writingText, listingCall};
 ghost use Rattle.table.specs.Answers.{shown};
 ghost use Rattle.listing.specs.Pairs.{pairsOf};
@@ -39,9 +39,9 @@ fn list_pairs(t: Table, s: &[u8], races: &[u8], illegal: &[u8], out: &mut [u8]) 
     Written::Bytes(put_listing(out, t, s, races, illegal))
 }
 
-// The listing of the table t that the bytes s are.
+// The listing of the table t that was read from the bytes s.
 fn list_table(t: Table, s: &[u8], out: &mut [u8]) -> Written
-    requires { ⌜ read (now s) ≡ Is (shown t (now s)) ⌝ }
+    requires { ⌜ Accepted (shown t (now s)) ⌝ }
     ensures { λ r. ⌜ left r (now (out .exit)) ≡ writingText (listing (shown t (now (s .entry)))) (now (out .entry)) ⌝ }
 {
     let mut races = [0u8; 32768];

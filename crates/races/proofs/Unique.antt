@@ -1,4 +1,4 @@
--- The contract of each public function leaves one answer, and that of each call one content of the buffer.
+-- The contract of each public function leaves one answer, and that of each list one content of the buffer.
 -- Assumes nothing.
 use contract.Lifetimes.{Lfts}
 use denote.Ref.{now}
@@ -17,6 +17,10 @@ use Rattle.races.proofs.is_race.Kinds as is-race-kinds
 use Rattle.races.proofs.is_race.Reads as is-race-reads
 use Rattle.races.proofs.is_illegal.Kinds as is-illegal-kinds
 use Rattle.races.proofs.is_illegal.Reads as is-illegal-reads
+use Rattle.races.proofs.race_list.list_races.Kinds as list-races-kinds
+use Rattle.races.proofs.race_list.list_races.Reads as list-races-reads
+use Rattle.races.proofs.illegal_list.list_illegal.Kinds as list-illegal-kinds
+use Rattle.races.proofs.illegal_list.list_illegal.Reads as list-illegal-reads
 use Rattle.races.proofs.races.Kinds as races-kinds
 use Rattle.races.proofs.races.Reads as races-reads
 use Rattle.races.proofs.illegal.Kinds as illegal-kinds
@@ -51,6 +55,16 @@ pub is-illegal-unique :
     (κs : Lfts 1) (a : Dens κs is-illegal-kinds.ps) (r₁ r₂ : resT is-illegal-kinds.r κs .Denot) (s₁ s₂ : AtExit (endedOf 1 is-illegal-kinds.ps is-illegal-kinds.r) κs)
     → is-illegal-reads.Post κs a r₁ s₁ → is-illegal-reads.Post κs a r₂ s₂ → r₁ ≡ r₂
 is-illegal-unique κs a r₁ r₂ s₁ s₂ p q = p ∙ sym q
+
+pub list-races-unique :
+    (κs : Lfts 2) (a : Dens κs list-races-kinds.ps) (r₁ r₂ : resT list-races-kinds.r κs .Denot) (s₁ s₂ : AtExit (endedOf 2 list-races-kinds.ps list-races-kinds.r) κs)
+    → list-races-reads.Post κs a r₁ s₁ → list-races-reads.Post κs a r₂ s₂ → (r₁ ≡ r₂) × (now (s₁ .1 .1 .0) ≡ now (s₂ .1 .1 .0))
+list-races-unique κs a r₁ r₂ s₁ s₂ p q = left-same r₁ r₂ _ _ (p ∙ sym q)
+
+pub list-illegal-unique :
+    (κs : Lfts 2) (a : Dens κs list-illegal-kinds.ps) (r₁ r₂ : resT list-illegal-kinds.r κs .Denot) (s₁ s₂ : AtExit (endedOf 2 list-illegal-kinds.ps list-illegal-kinds.r) κs)
+    → list-illegal-reads.Post κs a r₁ s₁ → list-illegal-reads.Post κs a r₂ s₂ → (r₁ ≡ r₂) × (now (s₁ .1 .1 .0) ≡ now (s₂ .1 .1 .0))
+list-illegal-unique κs a r₁ r₂ s₁ s₂ p q = left-same r₁ r₂ _ _ (p ∙ sym q)
 
 pub races-unique :
     (κs : Lfts 2) (a : Dens κs races-kinds.ps) (r₁ r₂ : resT races-kinds.r κs .Denot) (s₁ s₂ : AtExit (endedOf 2 races-kinds.ps races-kinds.r) κs)

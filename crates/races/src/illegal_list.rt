@@ -52,8 +52,8 @@ fn write_words(n: usize, words: &[u32; 128], out: &mut [u8])
     }
 }
 
-// The illegal pairs, where there is room for them.
-pub(crate) fn list_illegal(t: Table, s: &[u8], out: &mut [u8]) -> Listed
+// The illegal pairs of a table that was read, where there is room for them.
+pub fn list_illegal(t: Table, s: &[u8], out: &mut [u8]) -> Listed
     requires { ⌜ Accepted (shown t (now s)) ⌝ }
     ensures { λ r. ⌜ left r (now (out .exit)) ≡ writing (bytesOf (illegals (shown t (now (s .entry))))) (length (illegals (shown t (now (s .entry))))) (now (out .entry)) ⌝ }
 {

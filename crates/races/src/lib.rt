@@ -1,6 +1,6 @@
 // Races and illegal locks: the tests, and the two lists, two bytes a pair, into a lent buffer.
-mod illegal_list;
-mod race_list;
+pub mod illegal_list;
+pub mod race_list;
 
 use illegal_list::list_illegal;
 use locks::blocked;

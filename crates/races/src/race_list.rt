@@ -45,8 +45,8 @@ fn write_rows(n: usize, low: &[u64; 128], high: &[u64; 128], out: &mut [u8])
     }
 }
 
-// The races, where there is room for them.
-pub(crate) fn list_races(t: Table, s: &[u8], out: &mut [u8]) -> Listed
+// The races of a table that was read, where there is room for them.
+pub fn list_races(t: Table, s: &[u8], out: &mut [u8]) -> Listed
     requires { ⌜ Accepted (shown t (now s)) ⌝ }
     ensures { λ r. ⌜ left r (now (out .exit)) ≡ writing (bytesOf (races (shown t (now (s .entry))))) (length (races (shown t (now (s .entry))))) (now (out .entry)) ⌝ }
 {
