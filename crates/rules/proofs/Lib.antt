@@ -23,6 +23,7 @@ pub mod Counting
 pub mod EachMet
 pub mod WidthBound
 pub mod PreemptiveOnly
+pub mod ThresholdsExist
 pub mod ThresholdsMeanPreemption
 pub mod PriorityLaws
 -- Demand 3: a race is reached, nothing else is, and all drains.
