@@ -2,12 +2,12 @@
 -- every answer of the call does.
 -- Assumes nothing.
 use Prim.Native.Nat.{ℕ, _+_, _*_, _≤_, _<_}
-use mathlib.Core.Path.{_≡_, refl, sym, _∙_, ap}
+use mathlib.Core.Path.{_≡_, _∙_, ap}
 use mathlib.Core.List.{List}
 use native.Mathlib.Omega.{arith}
 use Rattle.rules.specs.Calls.{Answer, Value, Refusal, Left}
 use Rattle.rules.proofs.AnswersFit.{Fits}
-use Rattle.chinebright.specs.Coded.{Coded, coded, codedOf, leaves}
+use Rattle.chinebright.specs.Coded.{coded, codedOf, leaves}
 
 -- A refusal among answers that are at most m has a place of 32 bits.
 pub place-small : (m n p : ℕ) (a : Answer) → m < 4294967296 → Fits m a → Refusal n p ≡ a → p < 4294967296

@@ -2,16 +2,15 @@
 -- refused answer alone says what a step leaves.
 -- Assumes nothing.
 use Prim.Native.Nat.{ℕ, _≤_, _<_}
-use mathlib.Core.Path.{_≡_, refl, sym, _∙_, ap}
+use mathlib.Core.Path.{_≡_, ap}
 use mathlib.Core.List.{List, _++_, append-nil}
 use native.Mathlib.Omega.{arith}
-use lib.Dec.{leb}
 use lib.ListN.{length, drop, drop-of-length-le}
 use borrow.Author.Tests.{ne-eqb, le-leb, lt-leb}
 use Rattle.rules.specs.Table.{Table}
 use Rattle.rules.specs.Reading.{Reading, Is, Refused, read}
 use Rattle.rules.specs.Machine.{places, fresh, wellFormed, granting, step, Step, Stepped, Granted, Denied}
-use Rattle.rules.specs.Calls.{Answer, Value, Refusal, Left, reading, refusing, writing, stepped, freshCall, stepCall}
+use Rattle.rules.specs.Calls.{Answer, Value, Refusal, reading, refusing, writing, stepped, freshCall, stepCall}
 use Rattle.rules.proofs.AnswersFit.{Fits, left-fits}
 
 -- A fresh state, where there is no room and where there is.

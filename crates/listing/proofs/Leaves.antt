@@ -1,4 +1,4 @@
--- The two answers for a text, after a run over another buffer said how many bytes it has.
+-- The two answers for a text, once it is known how many bytes it has.
 -- Assumes nothing.
 use Prim.Native.Nat.{ℕ, _<_, _≤_}
 use mathlib.Core.Path.{_≡_}
@@ -15,16 +15,20 @@ use Rattle.listing.specs.Answers.{left}
 use Rattle.rows.specs.Writing.{Wrote}
 use Rattle.rows.proofs.Written.{from-start}
 
-pub too-short : {e t d : List ℕ} {need : ℕ} (l : List ℕ) → Wrote e 0 t d need → length l < need → left (Refused (Room need)) l ≡ writingText t l
-unfolding left number place writingText writing
-too-short {e} {t} {d} {need} l w h =
-    let p : need ≡ length t = omega (arith, w .place) in
-    let s : length l < length t = omega arith in
-    rw (lt-leb (length t) (length l) s, p)
+module _ (t l : List ℕ) {need : ℕ} (p : need ≡ length t) where
+  pub too-short : length l < need → left (Refused (Room need)) l ≡ writingText t l
+  unfolding left number place writingText writing
+  too-short h =
+      let s : length l < length t = omega arith in
+      rw (lt-leb (length t) (length l) s, p)
 
-pub fits : {e t d l m : List ℕ} {need r : ℕ} → Wrote e 0 t d need → need ≤ length l → Wrote l 0 t m r → left (Bytes r) m ≡ writingText t l
-unfolding left writingText writing
-fits {e} {t} {d} {l} {m} {need} {r} w h v =
-    let p : r ≡ length t = omega (arith, v .place) in
-    let s : length t ≤ length l = omega (arith, w .place) in
-    rw (le-leb (length t) (length l) s, p, from-start v s)
+  pub fits : {m : List ℕ} {r : ℕ} → need ≤ length l → Wrote l 0 t m r → left (Bytes r) m ≡ writingText t l
+  unfolding left writingText writing
+  fits {m} {r} h v =
+      let q : r ≡ length t = omega (arith, v .place) in
+      let s : length t ≤ length l = omega arith in
+      rw (le-leb (length t) (length l) s, q, from-start v s)
+
+-- What a run over another buffer counts.
+pub counted : {e t d : List ℕ} {need : ℕ} → Wrote e 0 t d need → need ≡ length t
+counted w = omega (arith, w .place)

@@ -1,8 +1,5 @@
-pub mod Runs
-pub mod Numbers
-pub mod Turns
+pub mod RowsFound
 pub mod Leaves
-pub mod Fillings
 pub mod Whole
 pub mod Known
 pub mod Unique

@@ -1,4 +1,4 @@
--- The contract of the listing call leaves one answer and one content of the buffer.
+-- The contract of the listing call leaves one answer and one content of the buffer, and that of the widening one content.
 -- Assumes nothing.
 use contract.Lifetimes.{Lfts}
 use denote.Ref.{now}
@@ -15,6 +15,8 @@ use Rattle.listing.specs.declared.Written.the-variants.{Bytes, Refused}
 use Rattle.listing.specs.Answers.{left}
 use Rattle.listing.proofs.listing.Kinds as listing-kinds
 use Rattle.listing.proofs.listing.Reads as listing-reads
+use Rattle.listing.proofs.words.widen.Kinds as widen-kinds
+use Rattle.listing.proofs.words.widen.Reads as widen-reads
 
 -- What is left tells the answer and the buffer.
 answer-same : (a b : Written) (l m : List ℕ) → left a l .answer ≡ left b m .answer → a ≡ b
@@ -41,3 +43,9 @@ pub listing-unique :
     (s₁ s₂ : AtExit (endedOf 2 listing-kinds.ps listing-kinds.r) κs)
     → listing-reads.Post κs a r₁ s₁ → listing-reads.Post κs a r₂ s₂ → (r₁ ≡ r₂) × (now (s₁ .1 .0) ≡ now (s₂ .1 .0))
 listing-unique κs a r₁ r₂ s₁ s₂ p q = left-same r₁ r₂ _ _ (p ∙ sym q)
+
+pub widen-unique :
+    (κs : Lfts 2) (a : Dens κs widen-kinds.ps) (r₁ r₂ : resT widen-kinds.r κs .Denot)
+    (s₁ s₂ : AtExit (endedOf 2 widen-kinds.ps widen-kinds.r) κs)
+    → widen-reads.Post κs a r₁ s₁ → widen-reads.Post κs a r₂ s₂ → now (s₁ .1 .0) ≡ now (s₂ .1 .0)
+widen-unique κs a r₁ r₂ s₁ s₂ p q = p ∙ sym q

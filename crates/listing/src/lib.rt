@@ -1,23 +1,23 @@
 // The findings as text, into a lent buffer.
-mod found;
-mod lines;
 mod refusal;
-mod text;
+pub mod words;
 
-use crate::found::illegal_bytes;
-use crate::found::race_bytes;
-use crate::lines::put_listing;
 use crate::refusal::list_refused;
+use crate::words::widen;
+use lines::put_section;
+use lines::section_length;
+use matrix::illegal::illegal_rows;
+use matrix::race_rows;
 use table::Answer;
 use table::Fault;
 use table::Table;
 ghost use mathlib.Core.Path.{_≡_};
-ghost use Prim.Native.Nat.{_≤_};
-ghost use lib.ListN.{length};
+ghost use mathlib.Core.Bool.{true, false};
 ghost use Rattle.rules.specs.Accepted.{Accepted};
 ghost use Rattle.rules.specs.Listing.{text, listing, writingText, listingCall};
-ghost use Rattle.table.specs.Answers.{shown};
-ghost use Rattle.listing.specs.Pairs.{pairsOf};
+ghost use Rattle.table.specs.Answers.{shown, Stands};
+ghost use Rattle.rows.specs.Writing.{rowsOf};
+ghost use Rattle.lines.specs.Lines.{RowsWithin};
 ghost use Rattle.listing.specs.Answers.{left};
 
 // specs/Answers.antt gives the numbers. Of the faults only Room occurs.
@@ -26,29 +26,43 @@ pub enum Written {
     Refused(Fault),
 }
 
-// The listing of the table t that stands in s, whose races and illegal pairs are given, two bytes a pair.
-fn list_pairs(t: Table, s: &[u8], races: &[u8], illegal: &[u8], out: &mut [u8]) -> Written
-    requires { ⌜ (length (now races) ≤ 65536) × (length (now illegal) ≤ 65536) ⌝ }
-    ensures { λ r. ⌜ left r (now (out .exit)) ≡ writingText (text (shown t (now (s .entry))) (pairsOf (now (races .entry))) (pairsOf (now (illegal .entry)))) (now (out .entry)) ⌝ }
+// The listing of the table t that stands in s, whose races and illegal pairs are given as rows of words: first the room that it takes, from
+// the lengths alone, and then the text.
+fn list_rows(
+    t: Table,
+    s: &[u8],
+    low: &[u64; 128],
+    high: &[u64; 128],
+    locks: &[u64; 128],
+    none: &[u64; 128],
+    out: &mut [u8],
+) -> Written
+    requires { ⌜ (Accepted (shown t (now s))) × (RowsWithin true (shown t (now s)) (now low) (now high)) × (RowsWithin false (shown t (now s)) (now locks) (now none)) ⌝ }
+    ensures { λ r. ⌜ left r (now (out .exit)) ≡ writingText (text (shown t (now (s .entry))) (rowsOf (now (low .entry)) (now (high .entry)) (t .accesses)) (rowsOf (now (locks .entry)) (now (none .entry)) (t .accesses))) (now (out .entry)) ⌝ }
 {
-    let mut none = [0u8; 0];
-    let need = put_listing(&mut none, t, s, races, illegal);
+    let a = section_length(b"races", true, t, s, low, high);
+    let need = a + section_length(b"illegal", false, t, s, locks, none);
     if out.len() < need {
         return Written::Refused(Fault::Room(need));
     }
-    Written::Bytes(put_listing(out, t, s, races, illegal))
+    let w = put_section(out, 0, b"races", true, t, s, low, high);
+    Written::Bytes(put_section(out, w, b"illegal", false, t, s, locks, none))
 }
 
 // The listing of the table t that was read from the bytes s.
 fn list_table(t: Table, s: &[u8], out: &mut [u8]) -> Written
-    requires { ⌜ Accepted (shown t (now s)) ⌝ }
+    requires { ⌜ (Accepted (shown t (now s))) × (Stands t (now s)) ⌝ }
     ensures { λ r. ⌜ left r (now (out .exit)) ≡ writingText (listing (shown t (now (s .entry)))) (now (out .entry)) ⌝ }
 {
-    let mut races = [0u8; 32768];
-    let n = race_bytes(t, s, &mut races);
-    let mut illegal = [0u8; 8192];
-    let m = illegal_bytes(t, s, &mut illegal);
-    list_pairs(t, s, &races[..n], &illegal[..m], out)
+    let mut low = [0u64; 128];
+    let mut high = [0u64; 128];
+    race_rows(t, s, &mut low, &mut high);
+    let mut words = [0u32; 128];
+    illegal_rows(t, s, &mut words);
+    let mut locks = [0u64; 128];
+    widen(&words, &mut locks);
+    let none = [0u64; 128];
+    list_rows(t, s, &low, &high, &locks, &none, out)
 }
 
 // The call: the text of the table that the bytes are, or of its refusal.

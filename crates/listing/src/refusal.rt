@@ -1,8 +1,8 @@
 // The listing of a table that is refused: its one line.
 use crate::Written;
-use crate::text::put_line;
-use crate::text::put_part;
 use table::Fault;
+use text::put_line;
+use text::put_part;
 ghost use mathlib.Core.Path.{_≡_};
 ghost use Rattle.rules.specs.Listing.{refusedLine, writingText};
 ghost use Rattle.table.specs.Answers.{number, place};

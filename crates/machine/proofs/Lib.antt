@@ -2,6 +2,8 @@
 pub mod Passed
 pub mod AllTested
 pub mod EmptySets
+pub mod HeldByOthers
+pub mod OthersLeave
 pub mod Steppers
 pub mod TestByTest
 -- One answer, one state.

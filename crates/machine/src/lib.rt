@@ -1,5 +1,4 @@
 // The stepping machine: its state, its steps, and the call that plays one step.
-mod opening;
 mod places;
 mod steps;
 mod taking;
@@ -8,7 +7,8 @@ use places::well_formed;
 use table::Answer;
 use table::Fault;
 use table::Table;
-use taking::may_take;
+use taking::Others;
+use taking::pass;
 ghost use mathlib.Core.Path.{_≡_};
 ghost use Rattle.rules.specs.Accepted.{Accepted};
 ghost use Rattle.rules.specs.Machine as rules;
@@ -85,10 +85,11 @@ impl State {
         if !step.fits(v) {
             return self.refused(Fault::Phase(0));
         }
-        if !may_take(t, s, &p, x) {
+        let others = pass(t, s, &p, x);
+        let Others::Yield(locks) = others else {
             return self.refused(Fault::Processor(0));
-        }
-        if !step.free(t, s, &p) {
+        };
+        if !step.free(t, s, locks) {
             return self.refused(Fault::Held(0));
         }
         let w = step.next();

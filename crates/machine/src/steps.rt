@@ -1,15 +1,16 @@
 // What a step names, asks for and leaves.
 use crate::State;
 use crate::Step;
-use crate::opening::unblocked;
+use locks::blocked;
 use table::Table;
 use table::bytes::wide;
 ghost use mathlib.Core.Path.{_≡_};
 ghost use mathlib.Core.Bool.{true};
 ghost use Prim.Native.Nat.{_<_, _≤_};
-ghost use Rattle.rules.specs.Machine.{stepper, named, fits, free, next};
+ghost use Rattle.rules.specs.Machine.{stepper, named, fits, next};
 ghost use Rattle.table.specs.Answers.{shown};
 ghost use Rattle.machine.specs.Answers.{stepOf};
+ghost use Rattle.machine.specs.OtherTasks.{freeOf};
 
 impl Step {
     // The step names a task, or an access.
@@ -73,17 +74,18 @@ impl Step {
         }
     }
 
-    // Open alone asks for blocking locks.
-    pub(crate) fn free(self, t: Table, s: &[u8], p: &[u8; 128]) -> bool
-        requires { ⌜ (t .nodes ≤ 128) × (t .locks ≤ 32) × (named (shown t (now s)) (stepOf self) ≡ true) ⌝ }
-        ensures { λ r. ⌜ r ≡ free (shown t (now (s .entry))) (now (p .entry)) (stepOf self) ⌝ }
+    // Open alone asks for blocking locks: none of them is among these, which the others hold.
+    pub(crate) fn free(self, t: Table, s: &[u8], locks: u32) -> bool
+        requires { ⌜ (t .locks ≤ 32) × (named (shown t (now s)) (stepOf self) ≡ true) ⌝ }
+        ensures { λ r. ⌜ r ≡ freeOf (shown t (now (s .entry))) locks (stepOf self) ⌝ }
     {
         match self {
             Step::Start(_) => {
                 return true;
             }
             Step::Open(i) => {
-                return unblocked(t, s, p, i);
+                let set = t.lock_set(s, i);
+                return !blocked(t, s, set, locks);
             }
             Step::Close(_) => {
                 return true;

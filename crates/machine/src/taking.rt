@@ -1,4 +1,4 @@
-// Taking the processor: what every other active task allows.
+// Taking the processor: one pass over the other tasks, which must all yield it, and whose locks are gathered on the way.
 use crate::State;
 use crate::places::held;
 use locks::masked;
@@ -6,45 +6,55 @@ use table::Table;
 use table::bytes::wide;
 use tree::may_preempt;
 ghost use mathlib.Core.Path.{_≡_};
-ghost use mathlib.Core.Bool.{not, _&&_, _||_};
 ghost use Prim.Native.Nat.{_<_, _≤_};
-ghost use lib.Dec.{eqb};
-ghost use Rattle.rules.specs.Preemption.{mayPreempt};
-ghost use Rattle.rules.specs.Locks.{masked};
-ghost use Rattle.rules.specs.Machine.{idle, held, mayTake};
+ghost use lib.Bits.{bitOr};
+ghost use Rattle.rules.specs.Machine.{mayTake};
 ghost use Rattle.table.specs.Answers.{shown};
+ghost use Rattle.machine.specs.OtherTasks.{yields, adds, heldByOthers, leaves};
 
-// Task x may take the processor from task u, at whose place v stands.
-fn yields(t: Table, s: &[u8], x: usize, u: usize, v: u8) -> bool
-    requires { ⌜ (t .locks ≤ 32) × (x < 256) ⌝ }
-    ensures { λ r. ⌜ r ≡ (eqb u x || eqb v idle || (mayPreempt (shown t (now (s .entry)) .tree) x u && not (masked (shown t (now (s .entry))) (held (shown t (now (s .entry))) v) x))) ⌝ }
-{
-    if u == x {
-        return true;
-    }
-    if v == State::IDLE {
-        return true;
-    }
-    if !may_preempt(t, s, x, u) {
-        return false;
-    }
-    let set = held(t, s, v);
-    !masked(t, s, set, x)
+// What the other tasks leave to the one that steps: an active one keeps the processor, or all yield it and together hold these locks.
+pub(crate) enum Others {
+    Keep,
+    Yield(u32),
 }
 
-// Task x may take the processor.
-pub(crate) fn may_take(t: Table, s: &[u8], p: &[u8; 128], x: usize) -> bool
+// Tasks that all yield to x and hold these locks, and one more: task u, at whose place v stands.
+fn one_more(t: Table, s: &[u8], x: usize, locks: u32, u: usize, v: u8) -> Others
+    requires { ⌜ (t .locks ≤ 32) × (x < 256) ⌝ }
+    ensures { λ r. ⌜ r ≡ leaves (yields (shown t (now (s .entry))) x u v) (bitOr locks (adds (shown t (now (s .entry))) x u v)) ⌝ }
+{
+    if u == x {
+        return Others::Yield(locks);
+    }
+    if v == State::IDLE {
+        return Others::Yield(locks);
+    }
+    if !may_preempt(t, s, x, u) {
+        return Others::Keep;
+    }
+    let set = held(t, s, v);
+    if masked(t, s, set, x) {
+        return Others::Keep;
+    }
+    Others::Yield(locks | set)
+}
+
+// What the others leave to task x.
+pub(crate) fn pass(t: Table, s: &[u8], p: &[u8; 128], x: usize) -> Others
     requires { ⌜ (t .nodes ≤ 128) × (t .locks ≤ 32) × (x < t .nodes) ⌝ }
-    ensures { λ r. ⌜ r ≡ mayTake (shown t (now (s .entry))) (now (p .entry)) x ⌝ }
+    ensures { λ r. ⌜ r ≡ leaves (mayTake (shown t (now (s .entry))) (now (p .entry)) x) (heldByOthers (shown t (now (s .entry))) (now (p .entry)) x) ⌝ }
 {
     let count = wide(t.nodes);
+    let mut locks = 0;
     let mut u = 0;
     while u < count {
         let v = p[u];
-        if !yields(t, s, x, u, v) {
-            return false;
-        }
+        let all = one_more(t, s, x, locks, u, v);
+        let Others::Yield(more) = all else {
+            return Others::Keep;
+        };
+        locks = more;
         u += 1;
     }
-    true
+    Others::Yield(locks)
 }

@@ -13,10 +13,8 @@ use Rattle.table.proofs.Faults.{fault-same}
 use Rattle.races.specs.declared.Listed.{Listed}
 use Rattle.races.specs.declared.Listed.the-variants.{Pairs, Refused}
 use Rattle.races.specs.Answers.{left}
-use Rattle.races.proofs.is_race.Kinds as is-race-kinds
-use Rattle.races.proofs.is_race.Reads as is-race-reads
-use Rattle.races.proofs.is_illegal.Kinds as is-illegal-kinds
-use Rattle.races.proofs.is_illegal.Reads as is-illegal-reads
+use Rattle.races.proofs.race_list.count_rows.Kinds as count-rows-kinds
+use Rattle.races.proofs.race_list.count_rows.Reads as count-rows-reads
 use Rattle.races.proofs.race_list.list_races.Kinds as list-races-kinds
 use Rattle.races.proofs.race_list.list_races.Reads as list-races-reads
 use Rattle.races.proofs.illegal_list.list_illegal.Kinds as list-illegal-kinds
@@ -46,15 +44,10 @@ left-same : (a b : Listed) (l m : List ℕ) → left a l ≡ left b m → (a ≡
 left-same a b l m e =
     (answer-same a b l m (ap (λ (x : Left). x .answer) e), sym (buffer-left a l) ∙ ap (λ (x : Left). x .buffer) e ∙ buffer-left b m)
 
-pub is-race-unique :
-    (κs : Lfts 1) (a : Dens κs is-race-kinds.ps) (r₁ r₂ : resT is-race-kinds.r κs .Denot) (s₁ s₂ : AtExit (endedOf 1 is-race-kinds.ps is-race-kinds.r) κs)
-    → is-race-reads.Post κs a r₁ s₁ → is-race-reads.Post κs a r₂ s₂ → r₁ ≡ r₂
-is-race-unique κs a r₁ r₂ s₁ s₂ p q = p ∙ sym q
-
-pub is-illegal-unique :
-    (κs : Lfts 1) (a : Dens κs is-illegal-kinds.ps) (r₁ r₂ : resT is-illegal-kinds.r κs .Denot) (s₁ s₂ : AtExit (endedOf 1 is-illegal-kinds.ps is-illegal-kinds.r) κs)
-    → is-illegal-reads.Post κs a r₁ s₁ → is-illegal-reads.Post κs a r₂ s₂ → r₁ ≡ r₂
-is-illegal-unique κs a r₁ r₂ s₁ s₂ p q = p ∙ sym q
+pub count-rows-unique :
+    (κs : Lfts 2) (a : Dens κs count-rows-kinds.ps) (r₁ r₂ : resT count-rows-kinds.r κs .Denot) (s₁ s₂ : AtExit (endedOf 2 count-rows-kinds.ps count-rows-kinds.r) κs)
+    → count-rows-reads.Post κs a r₁ s₁ → count-rows-reads.Post κs a r₂ s₂ → r₁ ≡ r₂
+count-rows-unique κs a r₁ r₂ s₁ s₂ p q = p ∙ sym q
 
 pub list-races-unique :
     (κs : Lfts 2) (a : Dens κs list-races-kinds.ps) (r₁ r₂ : resT list-races-kinds.r κs .Denot) (s₁ s₂ : AtExit (endedOf 2 list-races-kinds.ps list-races-kinds.r) κs)

@@ -1,6 +1,6 @@
 // The list of illegal pairs: the illegal locks of each access as a word, counted, then written where there is room.
 use crate::Listed;
-use rows::illegal::illegal_rows;
+use matrix::illegal::illegal_rows;
 use rows::writing::count_row;
 use rows::writing::write_row;
 use table::Fault;
@@ -15,7 +15,7 @@ ghost use Rattle.rules.specs.Accepted.{Accepted};
 ghost use Rattle.rules.specs.Bounded.{bytesOf};
 ghost use Rattle.rules.specs.Races.{illegals};
 ghost use Rattle.rules.specs.Calls.{writing};
-ghost use Rattle.table.specs.Answers.{shown};
+ghost use Rattle.table.specs.Answers.{shown, Stands};
 ghost use Rattle.rows.specs.Writing.{rowsOf};
 ghost use Rattle.races.specs.Answers.{left};
 
@@ -54,7 +54,7 @@ fn write_words(n: usize, words: &[u32; 128], out: &mut [u8])
 
 // The illegal pairs of a table that was read, where there is room for them.
 pub fn list_illegal(t: Table, s: &[u8], out: &mut [u8]) -> Listed
-    requires { ⌜ Accepted (shown t (now s)) ⌝ }
+    requires { ⌜ (Accepted (shown t (now s))) × (Stands t (now s)) ⌝ }
     ensures { λ r. ⌜ left r (now (out .exit)) ≡ writing (bytesOf (illegals (shown t (now (s .entry))))) (length (illegals (shown t (now (s .entry))))) (now (out .entry)) ⌝ }
 {
     let n = wide(t.accesses);

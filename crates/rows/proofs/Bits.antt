@@ -1,19 +1,20 @@
 -- The bits of a number, by `inSet`: those of and, or, not, of a power of two, of the number without its lowest bit, and that a number is
 -- its bits.
 -- Assumes nothing.
-use Prim.Native.Nat.{ℕ, zero, suc, _+_, _*_, _-_, _^_, _/_, _%_, _<_, _≤_, min, max}
+use Prim.Native.Nat.{ℕ, zero, suc, _+_, _*_, _-_, _^_, _/_, _%_, _<_, _≤_, min}
 use mathlib.Core.Path.{_≡_, refl, ap, _∙_, sym}
 use mathlib.Core.Logic.{_≢_}
-use mathlib.Core.Bool.{Bool, true, false, not, _&&_, _||_}
+use mathlib.Core.Bool.{Bool, true, false, not, _&&_}
 use native.Mathlib.Decide.{ℕ-discrete}
 use native.Mathlib.Omega.{arith}
-use native.Mathlib.Nat.{pow-suc, zero-div}
+use native.Mathlib.Nat.{pow-suc}
 use lib.Dec.{eqb}
 use lib.Pow.{shr-shr}
-use lib.Bits.{bitAnd, bitOr, and-step, and-shr, or-step, or-shr, and-self}
+use lib.Bits.{bitAnd, and-step, and-shr, and-self}
 use lib.Count.{trailingZeros, under}
 use borrow.Author.Tests.{eq-eqb, ne-eqb, eqb-true, eqb-false}
 use Rattle.rules.specs.Locks.{inSet}
+pub use Rattle.rules.proofs.Unions.{has-or, has-zero}
 
 -- A bit is 0 or 1.
 and-bit : (x y : ℕ) → eqb (min (x % 2) (y % 2)) 1 ≡ (eqb (x % 2) 1 && eqb (y % 2) 1)
@@ -23,17 +24,6 @@ and-bit x y = side (eqb (x % 2) 1) (eqb (y % 2) 1) refl refl
     side true true e f = eq-eqb (min (x % 2) (y % 2)) 1 (omega (arith, eqb-true (x % 2) 1 e, eqb-true (y % 2) 1 f))
     side true false e f = ne-eqb (min (x % 2) (y % 2)) 1 (λ h. eqb-false (y % 2) 1 f (omega arith))
     side false q e f = ne-eqb (min (x % 2) (y % 2)) 1 (λ h. eqb-false (x % 2) 1 e (omega arith))
-
-or-bit : (x y : ℕ) → eqb (max (x % 2) (y % 2)) 1 ≡ (eqb (x % 2) 1 || eqb (y % 2) 1)
-or-bit x y = side (eqb (x % 2) 1) (eqb (y % 2) 1) refl refl
-  where
-    side : (p q : Bool) → eqb (x % 2) 1 ≡ p → eqb (y % 2) 1 ≡ q → eqb (max (x % 2) (y % 2)) 1 ≡ (p || q)
-    side true q e f = eq-eqb (max (x % 2) (y % 2)) 1 (omega (arith, eqb-true (x % 2) 1 e))
-    side false true e f = eq-eqb (max (x % 2) (y % 2)) 1 (omega (arith, eqb-true (y % 2) 1 f))
-    side false false e f =
-        let m = eqb-false (x % 2) 1 e in
-        let n = eqb-false (y % 2) 1 f in
-        ne-eqb (max (x % 2) (y % 2)) 1 (λ h. m (omega arith))
 
 not-bit : (x y : ℕ) → y % 2 ≡ 1 - x % 2 → eqb (y % 2) 1 ≡ not (eqb (x % 2) 1)
 not-bit x y e = side (eqb (x % 2) 1) refl
@@ -50,16 +40,6 @@ unfolding inSet
 has-and k a b =
     let e : bitAnd a b / 2 ^ k % 2 ≡ min (a / 2 ^ k % 2) (b / 2 ^ k % 2) = rw and-shr (omega (arith, and-step (a / 2 ^ k) (b / 2 ^ k))) in
     rw e (and-bit (a / 2 ^ k) (b / 2 ^ k))
-
-pub has-or : (k a b : ℕ) → inSet k (bitOr a b) ≡ (inSet k a || inSet k b)
-unfolding inSet
-has-or k a b =
-    let e : bitOr a b / 2 ^ k % 2 ≡ max (a / 2 ^ k % 2) (b / 2 ^ k % 2) = rw or-shr (omega (arith, or-step (a / 2 ^ k) (b / 2 ^ k))) in
-    rw e (or-bit (a / 2 ^ k) (b / 2 ^ k))
-
-pub has-zero : (k : ℕ) → inSet k 0 ≡ false
-unfolding inSet
-has-zero k = rw zero-div
 
 pub has-half : (k x : ℕ) → inSet (suc k) x ≡ inSet k (x / 2)
 unfolding inSet

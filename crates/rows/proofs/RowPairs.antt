@@ -2,24 +2,15 @@
 -- Assumes nothing.
 use Prim.Native.Nat.{ℕ, zero, suc, _+_, _*_, _-_, _≤_, _<_}
 use mathlib.Core.Path.{_≡_, refl}
-use mathlib.Core.Logic.{_⊎_, inl, inr}
-use mathlib.Core.Bool.{Bool, true, false, _&&_}
-use mathlib.Core.List.{List, [], _++_}
+use mathlib.Core.Bool.{Bool}
+use mathlib.Core.List.{List, _++_}
 use native.Mathlib.Numerals.{add-one}
 use native.Mathlib.Omega.{arith}
-use lib.Dec.{ltb}
 use lib.ListN.{length, getD, length-append}
-use borrow.Author.Tests.{le-ltb, ltb-true, ltb-false}
 use Rattle.rules.specs.Bounded.{pairs, bytesOf}
-use Rattle.rules.specs.Locks.{inSet}
-use Rattle.rules.specs.Table.{Table}
-use Rattle.rules.specs.Accepted.{Accepted}
-use Rattle.rules.specs.Races.{race, illegal, races, illegals}
-use Rattle.rules.proofs.Bools.{bool}
 use Rattle.rules.proofs.FewPairs.{row-few, bytes-length}
-use Rattle.rows.specs.Rows.{Row, RaceRows, IllegalRows, inRow}
+use Rattle.rows.specs.Rows.{Row, inRow}
 use Rattle.rows.specs.Writing.{Wrote, Counted, rowOf, rowsOf}
-use Rattle.rows.proofs.Bits.{has-none, has-zero}
 use Rattle.rows.proofs.Written.{none, next, same-room}
 use Rattle.rows.proofs.Pairs.{bytes-append, row-words}
 
@@ -71,34 +62,9 @@ module _ (low high : List ℕ) where
 
 -- Words that say which of m numbers pass p hold the pairs of p.
 module _ (p : ℕ → ℕ → Bool) (m : ℕ) (few : m ≤ 128) (low high : List ℕ) where
-  rows-words : (n : ℕ) → ((i : ℕ) → i < n → Row 64 (p i) 0 m (getD low i 0)) → ((i : ℕ) → i < n → Row 64 (p i) 64 m (getD high i 0))
+  pub rows-words : (n : ℕ) → ((i : ℕ) → i < n → Row 64 (p i) 0 m (getD low i 0)) → ((i : ℕ) → i < n → Row 64 (p i) 64 m (getD high i 0))
       → rowsOf low high n ≡ pairs p n m
   unfolding rowsOf pairs
   rows-words zero f g = refl
   rows-words (suc n) f g =
       rw (rows-words n (λ i h. f i (omega arith)) (λ i h. g i (omega arith)), row-words p n m (getD low n 0) (getD high n 0) few (f n (omega arith)) (g n (omega arith)))
-
--- A word of 32 bits is a row's low word, beside a high word of 0.
-wider : (p : ℕ → Bool) (m x : ℕ) → m ≤ 32 → Row 32 p 0 m x → Row 64 p 0 m x
-wider p m x h f = record { fits = omega (arith, f .fits); bits = λ j l. side j (bool (ltb j 32)) }
-  where
-    side : (j : ℕ) → (ltb j 32 ≡ true) ⊎ (ltb j 32 ≡ false) → inSet j x ≡ (ltb (0 + j) m && p (0 + j))
-    side j (inl e) = f .bits j (ltb-true j 32 e)
-    side j (inr e) =
-        let k = ltb-false j 32 e in
-        rw (le-ltb (0 + j) m (omega arith)) (has-none 32 j x (f .fits) k)
-
-beside : (p : ℕ → Bool) (m : ℕ) → m ≤ 32 → Row 64 p 64 m 0
-beside p m h = record { fits = omega arith; bits = λ j l. rw (le-ltb (64 + j) m (omega arith)) (has-zero j) }
-
-module _ (t : Table) (ok : Accepted t) where
-  pub race-pairs : {low₀ high₀ low high : List ℕ} → RaceRows t low₀ high₀ low high → rowsOf low high (t .accesses) ≡ races t
-  unfolding races
-  race-pairs {low₀} {high₀} {low} {high} r = rows-words (race t) (t .accesses) (ok .fewAccesses) low high (t .accesses) (r .lows) (r .highs)
-
-  pub illegal-pairs : {rows₀ rows : List ℕ} → IllegalRows t rows₀ rows → rowsOf rows [] (t .accesses) ≡ illegals t
-  unfolding illegals
-  illegal-pairs {rows₀} {rows} r =
-      rows-words (illegal t) (t .locks) (omega (arith, ok .fewLocks)) rows [] (t .accesses)
-      (λ i h. wider (illegal t i) (t .locks) (getD rows i 0) (ok .fewLocks) (r .words i h))
-      (λ i h. beside (illegal t i) (t .locks) (ok .fewLocks))

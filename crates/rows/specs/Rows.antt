@@ -6,9 +6,8 @@ use mathlib.Core.Bool.{Bool, _&&_, cond}
 use mathlib.Core.List.{List}
 use lib.Dec.{ltb}
 use lib.ListN.{length, getD}
-use Rattle.rules.specs.Table.{Table}
 use Rattle.rules.specs.Locks.{inSet}
-use Rattle.rules.specs.Races.{race, illegal}
+use Rattle.rules.specs.Races.{race}
 
 -- The w bits of a word say which of the numbers from b on are below n and pass p.
 pub record Row (w : ℕ) (p : ℕ → Bool) (b n word : ℕ) : Type 0 where
@@ -19,18 +18,6 @@ pub record Row (w : ℕ) (p : ℕ → Bool) (b n word : ℕ) : Type 0 where
 pub record Kept (m : ℕ) (rows₀ rows : List ℕ) : Type 0 where
   pub sized : length rows ≡ length rows₀
   pub words : (i : ℕ) → m ≤ i → getD rows i 0 ≡ getD rows₀ i 0
-
--- The words of each access say which accesses it races with; those past the accesses are as they were.
-pub record RaceRows (t : Table) (low₀ high₀ low high : List ℕ) : Type 0 where
-  pub lows : (i : ℕ) → i < t .accesses → Row 64 (race t i) 0 (t .accesses) (getD low i 0)
-  pub highs : (i : ℕ) → i < t .accesses → Row 64 (race t i) 64 (t .accesses) (getD high i 0)
-  pub lowKept : Kept (t .accesses) low₀ low
-  pub highKept : Kept (t .accesses) high₀ high
-
--- The word of each access says which locks are illegal for it; those past the accesses are as they were.
-pub record IllegalRows (t : Table) (rows₀ rows : List ℕ) : Type 0 where
-  pub words : (i : ℕ) → i < t .accesses → Row 32 (illegal t i) 0 (t .locks) (getD rows i 0)
-  pub kept : Kept (t .accesses) rows₀ rows
 
 -- Number j is in the row of two words.
 unfoldable pub inRow : ℕ → ℕ → ℕ → Bool

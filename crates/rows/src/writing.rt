@@ -1,10 +1,15 @@
 // The pairs of a row of words into a lent buffer, two bytes a pair.
-use crate::single::place;
 ghost use mathlib.Core.Path.{_≡_};
 ghost use Prim.Native.Nat.{_+_, _*_, _≤_};
 ghost use lib.ListN.{length};
 ghost use Rattle.rules.specs.Bounded.{bytesOf};
 ghost use Rattle.rows.specs.Writing.{Wrote, Counted, rowOf, bitPairs, runPairs};
+
+pub fn place(x: u32) -> usize
+    ensures { λ r. ⌜ r ≡ x ⌝ }
+{
+    x as usize
+}
 
 // How many numbers are in the row.
 pub fn count_row(low: u64, high: u64) -> usize
@@ -67,21 +72,38 @@ fn write_bits(i: u8, from: usize, word: u64, out: &mut [u8], at: usize) -> usize
     k
 }
 
+// Few bits, surely, where the upper ones are clear.
 fn write_word(i: u8, from: usize, word: u64, out: &mut [u8], at: usize) -> usize
     requires { ⌜ (from + 64 ≤ 256) × (at + length (bitPairs 64 i from word) ≤ length (now out)) ⌝ }
     ensures { λ r. ⌜ Wrote (now (out .entry)) at (bitPairs 64 i from word) (now (out .exit)) r ⌝ }
 {
+    if word >> 40 == 0 {
+        return write_bits(i, from, word, out, at);
+    }
     if 40 < u64::count_ones(word) {
         return write_runs(i, from, word, out, at);
     }
     write_bits(i, from, word, out, at)
 }
 
-// The pairs of i with the numbers of the row, in order.
-pub fn write_row(i: u8, low: u64, high: u64, out: &mut [u8], at: usize) -> usize
+fn write_words(i: u8, low: u64, high: u64, out: &mut [u8], at: usize) -> usize
     requires { ⌜ at + length (bytesOf (rowOf low high i)) ≤ length (now out) ⌝ }
     ensures { λ r. ⌜ Wrote (now (out .entry)) at (bytesOf (rowOf low high i)) (now (out .exit)) r ⌝ }
 {
     let k = write_word(i, 0, low, out, at);
     write_word(i, 64, high, out, k)
+}
+
+// The pairs of i with the numbers of the row, in order. Most rows have none.
+pub fn write_row(i: u8, low: u64, high: u64, out: &mut [u8], at: usize) -> usize
+    requires { ⌜ at + length (bytesOf (rowOf low high i)) ≤ length (now out) ⌝ }
+    ensures { λ r. ⌜ Wrote (now (out .entry)) at (bytesOf (rowOf low high i)) (now (out .exit)) r ⌝ }
+{
+    if low != 0 {
+        return write_words(i, low, high, out, at);
+    }
+    if high != 0 {
+        return write_words(i, low, high, out, at);
+    }
+    at
 }

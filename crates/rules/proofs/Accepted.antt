@@ -1,7 +1,7 @@
 -- Every table that is read has the facts of `Accepted`: a section that is fine has passed each of its tests, and each test is a fact.
 -- Assumes nothing.
-use Prim.Native.Nat.{ℕ, _≤_, _<_, _^_}
-use mathlib.Core.Path.{_≡_, refl, subst, sym}
+use Prim.Native.Nat.{ℕ, zero, suc, _+_, _*_, _≤_, _<_, _^_}
+use mathlib.Core.Path.{_≡_}
 use mathlib.Core.Logic.{_≢_}
 use mathlib.Core.Bool.{true}
 use mathlib.Core.List.{List}
@@ -10,7 +10,7 @@ use lib.Dec.{leb, ltb}
 use lib.ListN.{length}
 use borrow.Author.Tests.{eqb-true, eqb-false, ne-eqb, leb-true, ltb-true}
 use Rattle.rules.specs.Table.{Tree, Table, task, blocking, mask, isTask, isScheduler, isChild}
-use Rattle.rules.specs.Reading.{Counts, Fine, Is, countsOf, tableAt, tableOf, firstFault, formSection, nodeSection, lockSection, resourceSection, accessSection, endSection, countCheck, nodeCheck, lockCheck, accessCheck, nodeFault, lockFault, accessFault, parentRight, coveredRight, byte, read}
+use Rattle.rules.specs.Reading.{Fine, Is, countsOf, tableAt, tableOf, firstFault, nodeSection, lockSection, resourceSection, accessSection, endSection, countCheck, nodeCheck, lockCheck, accessCheck, nodeFault, lockFault, accessFault, parentRight, coveredRight, byte, due, endAt, countsIn, read}
 use Rattle.rules.specs.Accepted.{Rooted, Accepted}
 use Rattle.rules.proofs.Bools.{and-left, and-right, not-true}
 use Rattle.rules.proofs.Reading.{then-left, then-right, unless-fine, each-fine, read-fine, read-table}
@@ -154,5 +154,29 @@ module _ (b : List ℕ) (e : firstFault b ≡ Fine) where
         sets = λ i h. access-set _ i (each-access i h);
       }
 
+-- What is due and fine ends within the bytes.
+due-within : (b : List ℕ) (e : ℕ) → due b e ≡ Fine → e ≤ length b
+unfolding due
+due-within b e q = leb-true e (length b) (unless-fine _ _ _ q)
+
+-- Records of six bytes from p on, each of which ends at m or before.
+records-within : (p m n : ℕ) → p ≤ m → ((i : ℕ) → i < n → p + i * 6 + 6 ≤ m) → p + n * 6 ≤ m
+records-within p m zero h f = omega arith
+records-within p m (suc n) h f = let q = f n (omega arith) in omega arith
+
+-- Bytes with no fault hold every record, up to the last access.
+module _ (b : List ℕ) (e : firstFault b ≡ Fine) where
+  pub fine-stands : endAt (countsOf b) ≤ length b
+  unfolding accessSection accessCheck countCheck
+  fine-stands =
+      let s = accesses-fine b e in
+      records-within _ _ _
+      (due-within b _ (then-left _ _ (then-left _ _ s)))
+      (λ i h. due-within b _ (then-left _ _ (each-fine _ _ (then-right _ _ s) i h)))
+
 pub accepted : (b : List ℕ) (t : Table) → read b ≡ Is t → Accepted t
 accepted b t e = rw (read-table b t e) (fine-accepted b (read-fine b t e))
+
+pub stands : (b : List ℕ) (t : Table) → read b ≡ Is t → endAt (countsIn t) ≤ length b
+unfolding countsIn tableOf tableAt
+stands b t e = rw (read-table b t e) (fine-stands b (read-fine b t e))

@@ -3,18 +3,18 @@
 -- Assumes nothing.
 use Prim.Native.Nat.{ℕ}
 use mathlib.Core.Path.{_≡_, refl}
-use mathlib.Core.Bool.{Bool, true, false}
+use mathlib.Core.Bool.{true, false}
 use mathlib.Core.List.{List, [], _∷_, _++_}
 use lib.ListN.{length, take, set}
-use Rattle.rules.specs.Bounded.{Pair, allBelow, someBelow, row, pairs, bytesOf}
+use Rattle.rules.specs.Bounded.{allBelow, someBelow, row, pairs, bytesOf}
 use Rattle.rules.specs.Table.{isTask, isScheduler, isChild}
 use Rattle.rules.specs.Reading.{Reading, Is, Refused, read, concluded, firstFault, formSection, nodeSection, lockSection, resourceSection, accessSection, endSection, countCheck, nodeCheck, lockCheck, resourceCheck, accessCheck, nodeFault, lockFault, accessFault, countsIn, parentRight, coveredRight, due, each, unless, _andThen_, tableOf, countsOf, tableAt}
 use Rattle.rules.specs.Preemption.{climbsTo, atOrBelow, isAncestor, nearestAbove, nearestCommon, climbsUnder, childAbove, allows, mayPreempt}
 use Rattle.rules.specs.Locks.{inSet, covers, masked, blocked}
 use Rattle.rules.specs.Races.{race, illegal, races, illegals}
-use Rattle.rules.specs.Priorities.{hasThresholds, Walk, unwalked, given, movedOn, children, visit, walk, shown, thresholds}
-use Rattle.rules.specs.Machine.{fresh, placeRight, wellFormed, held, mayTake, unblocked, Step, Start, Open, Close, Finish, stepper, named, fits, free, next, Stepped, Granted, Denied, granting, step, after, run}
-use Rattle.rules.specs.Calls.{Answer, Value, Refusal, Left, refusing, writing, reading, racesCall, illegalCall, thresholdsCall}
+use Rattle.rules.specs.Priorities.{hasThresholds, unwalked, given, movedOn, children, visit, walk, shown, thresholds}
+use Rattle.rules.specs.Machine.{fresh, placeRight, wellFormed, held, mayTake, unblocked, Step, Start, Open, stepper, named, fits, free, next, Stepped, Granted, Denied, granting, step, after, run}
+use Rattle.rules.specs.Calls.{Value, Refusal, Left, refusing, writing, reading, racesCall, illegalCall, thresholdsCall}
 
 unfoldable pub tableW : List ℕ
 tableW =

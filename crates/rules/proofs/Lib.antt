@@ -3,6 +3,7 @@ pub mod Examples
 -- What tests and accepted tables say.
 pub mod Bools
 pub mod Bounded
+pub mod Unions
 pub mod Reading
 pub mod Accepted
 pub mod Places

@@ -3,16 +3,15 @@
 -- Assumes nothing.
 use Prim.Native.Nat.{ℕ}
 use mathlib.Core.Path.{_≡_, refl}
-use mathlib.Core.Bool.{Bool, true, false}
-use mathlib.Core.List.{List, [], _∷_, _++_}
-use lib.ListN.{length, take, set}
-use Rattle.rules.specs.Bounded.{Pair, someBelow, row, pairs}
+use mathlib.Core.List.{List, []}
+use lib.ListN.{take, set}
+use Rattle.rules.specs.Bounded.{someBelow, row, pairs}
 use Rattle.rules.specs.Table.{isTask, isScheduler, isChild}
 use Rattle.rules.specs.Reading.{read, concluded, firstFault, formSection, nodeSection, lockSection, resourceSection, accessSection, endSection, countCheck, nodeCheck, lockCheck, resourceCheck, accessCheck, nodeFault, lockFault, accessFault, countsIn, parentRight, coveredRight, due, each, unless, _andThen_, tableOf, countsOf, tableAt}
 use Rattle.rules.specs.Preemption.{climbsTo, atOrBelow, isAncestor, nearestAbove, nearestCommon, climbsUnder, childAbove, allows, mayPreempt}
 use Rattle.rules.specs.Locks.{inSet, covers, masked, blocked}
 use Rattle.rules.specs.Races.{race, illegal, races, illegals}
-use Rattle.rules.specs.Calls.{Left, Value, Refusal, refusing, writing, reading}
+use Rattle.rules.specs.Calls.{Value, Refusal, refusing, writing, reading}
 use Rattle.rules.specs.Quoted.{codes}
 use Rattle.rules.specs.Listing.{digits, decimal, fields, line, raceLine, illegalLine, lines, section, text, listing, refusedLine, findings, writingText, listingCall}
 use Rattle.rules.proofs.Examples.{tableW}

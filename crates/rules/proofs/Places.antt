@@ -1,18 +1,15 @@
 -- Every refusal of reading has a number from 1 to 11 and a place within the longest table: a section is only looked at when those before it
 -- passed, so its counts are within their limits, and a record's number is below its count.
 -- Assumes nothing.
-use Prim.Native.Nat.{ℕ, zero, suc, _+_, _*_, _≤_, _<_}
-use mathlib.Core.Path.{_≡_, refl, sym}
-use mathlib.Core.Logic.{_⊎_, inl, inr}
-use mathlib.Core.Bool.{Bool, true, false, cond}
+use Prim.Native.Nat.{ℕ, zero, suc, _+_, _≤_, _<_}
+use mathlib.Core.Path.{_≡_, refl}
+use mathlib.Core.Bool.{Bool, true, false}
 use mathlib.Core.List.{List}
 use native.Mathlib.Omega.{arith}
 use lib.Dec.{leb}
 use lib.ListN.{length}
 use borrow.Author.Tests.{leb-false}
-use Rattle.rules.specs.Table.{Table}
-use Rattle.rules.specs.Reading.{Counts, Check, Fine, Fault, _andThen_, unless, each, due, countCheck, byte, countsOf, countsIn, tableAt, tableOf, nodeFault, lockFault, accessFault, nodeCheck, lockCheck, resourceCheck, accessCheck, formSection, nodeSection, lockSection, resourceSection, accessSection, endSection, firstFault, concluded, read, Is, Refused, locksAt, resourcesAt, accessesAt}
-use Rattle.rules.proofs.Bools.{bool}
+use Rattle.rules.specs.Reading.{Counts, Check, Fine, Fault, _andThen_, unless, each, due, countCheck, countsOf, countsIn, tableAt, tableOf, nodeFault, lockFault, accessFault, nodeCheck, lockCheck, resourceCheck, accessCheck, formSection, nodeSection, lockSection, resourceSection, accessSection, endSection, firstFault, concluded, read, Is, Refused}
 use Rattle.rules.proofs.Reading.{then-left}
 use Rattle.rules.proofs.Accepted.{count-limits}
 

@@ -1,7 +1,7 @@
 -- What a reading that finds no fault has tested: each part of the chain is fine, and so is each record of a section.
 -- Assumes nothing.
-use Prim.Native.Nat.{ℕ, zero, suc, _+_, _≤_, _<_}
-use mathlib.Core.Path.{_≡_, refl, sym}
+use Prim.Native.Nat.{ℕ, zero, suc, _≤_, _<_}
+use mathlib.Core.Path.{_≡_, refl}
 use mathlib.Core.Bool.{Bool, true, false}
 use mathlib.Core.List.{List}
 use native.Mathlib.Nat.{not-suc-le-zero}
@@ -10,7 +10,7 @@ use native.Mathlib.Omega.{arith}
 use lib.ListN.{length}
 use borrow.Author.Tests.{leb-true}
 use Rattle.rules.specs.Table.{Table}
-use Rattle.rules.specs.Reading.{Check, Fine, Fault, _andThen_, unless, each, due, Reading, Is, Refused, concluded, read, firstFault, tableOf}
+use Rattle.rules.specs.Reading.{Check, Fine, Fault, _andThen_, unless, each, due, Is, concluded, read, firstFault, tableOf}
 
 pub then-left : (a b : Check) → (a andThen b) ≡ Fine → a ≡ Fine
 unfolding _andThen_

@@ -1,10 +1,10 @@
 -- Thresholds exist exactly as refusal 13 has it: no node is of kind 4, and no scheduler is a child of kind 2 or 3. A parent is a scheduler, so
 -- where no node is of kind 4 its kind is 1, 2 or 3, and the definition's 'its parent is preemptive' is 'its parent is not of kind 2 or 3'.
 -- Assumes nothing.
-use Prim.Native.Nat.{ℕ, _≤_, _<_}
-use mathlib.Core.Path.{_≡_, refl}
-use mathlib.Core.Logic.{_≢_, _↔_, _⊎_, inl, inr}
-use mathlib.Core.Bool.{Bool, true, false, not, _&&_, _||_}
+use Prim.Native.Nat.{ℕ, _<_}
+use mathlib.Core.Path.{_≡_}
+use mathlib.Core.Logic.{_≢_, _↔_}
+use mathlib.Core.Bool.{true, not, _&&_, _||_}
 use native.Mathlib.Decide.{ℕ-discrete}
 use native.Mathlib.Omega.{arith}
 use lib.Dec.{eqb}
@@ -12,7 +12,7 @@ use borrow.Author.Tests.{eqb-true, eqb-false, eq-eqb, ne-eqb}
 use Rattle.rules.specs.Table.{Tree, task, preemptive, nonPreemptive, fifo, timeSliced}
 use Rattle.rules.specs.Accepted.{Rooted}
 use Rattle.rules.specs.Priorities.{hasThresholds}
-use Rattle.rules.proofs.Bools.{and-left, and-right, and-both, not-true}
+use Rattle.rules.proofs.Bools.{and-left, and-right, not-true}
 use Rattle.rules.proofs.Bounded.{all-at, all-from}
 
 -- What refusal 13 asks of node n: it is not of kind 4, and if it is a scheduler below another, that one is not of kind 2 or 3.

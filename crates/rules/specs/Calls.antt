@@ -2,7 +2,7 @@
 -- A refused call leaves every lent byte as found. An accepted call writes only the bytes of its answer, from the start of the buffer.
 -- Assumes nothing.
 use Prim.Native.Nat.{ℕ, _*_}
-use mathlib.Core.Bool.{Bool, cond}
+use mathlib.Core.Bool.{cond}
 use mathlib.Core.List.{List, _++_}
 use lib.Dec.{leb}
 use lib.ListN.{length, drop}

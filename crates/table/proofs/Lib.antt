@@ -6,3 +6,5 @@ pub mod Told
 pub mod Faults
 pub mod Unique
 pub mod UniqueFields
+pub mod UniqueRecords
+pub mod Bounds

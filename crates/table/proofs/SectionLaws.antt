@@ -7,9 +7,8 @@ use mathlib.Core.List.{List}
 use native.Mathlib.Decide.{ℕ-discrete, decLe}
 use native.Mathlib.Numerals.{add-one}
 use native.Mathlib.Omega.{arith}
-use lib.Dec.{leb}
 use lib.ListN.{length}
-use borrow.Author.Tests.{le-leb, lt-leb, leb-true}
+use borrow.Author.Tests.{le-leb, lt-leb}
 use Rattle.rules.specs.Reading as reading
 use Rattle.rules.specs.Reading.{Counts, byte, nodesAt, locksAt, resourcesAt, accessesAt, maxResources, countsOf, _andThen_, each, due, unless, countCheck, resourceCheck, resourceSection, concluded, Is}
 use Rattle.rules.proofs.Reading.{then-left, due-fine}
@@ -17,11 +16,10 @@ use Rattle.rules.specs.Table as rules
 use Rattle.table.specs.declared.Table.{Table}
 use Rattle.table.specs.declared.Fault.{Fault}
 use Rattle.table.specs.declared.Fault.the-variants.{Short}
-use Rattle.table.specs.declared.Answer.{Answer}
-use Rattle.table.specs.declared.Answer.the-variants.{Read, Refused}
+use Rattle.table.specs.declared.Answer.the-variants.{Refused}
 use Rattle.table.specs.declared.Check.{Check}
 use Rattle.table.specs.declared.Check.the-variants.{Fine, Bad}
-use Rattle.table.specs.Answers.{number, place, checked, told, shown}
+use Rattle.table.specs.Answers.{number, place, checked, told}
 
 -- The check that a code's answer stands for.
 pub found : (r : Check) (f : Fault) (k : reading.Check) → checked r ≡ k → r ≡ Bad f → k ≡ reading.Fault (number f) (place f)

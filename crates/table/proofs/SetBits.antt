@@ -1,6 +1,6 @@
 -- Sets as numbers: a set has no bit k or above exactly when it is below 2 to the k.
 -- Assumes nothing.
-use Prim.Native.Nat.{ℕ, zero, suc, _^_, _/_, _≤_, _<_}
+use Prim.Native.Nat.{ℕ, _^_, _/_, _≤_, _<_}
 use mathlib.Core.Path.{_≡_, refl}
 use mathlib.Core.Bool.{Bool, true, false}
 use native.Mathlib.Nat.{div-lt-iff-lt-mul, one-mul, pow-le-pow-right}

@@ -3,7 +3,7 @@
 use Prim.Native.Nat.{ℕ}
 use mathlib.Core.Path.{_≡_, refl}
 use mathlib.Core.List.{List}
-use Rattle.rules.specs.Reading.{Counts, tableAt, countsIn}
+use Rattle.rules.specs.Reading.{tableAt, countsIn}
 use Rattle.table.specs.declared.Table.{Table}
 use Rattle.table.specs.Answers.{counts, shown}
 

@@ -7,7 +7,6 @@ use mathlib.Core.Path.{_≡_, sym, _∙_, ap}
 use mathlib.Core.List.{List}
 use Prim.Native.Nat.{ℕ}
 use Rattle.rules.specs.Reading as reading
-use Rattle.rules.specs.Reading.{read, Is}
 use Rattle.table.specs.declared.Answer.{Answer}
 use Rattle.table.specs.declared.Answer.the-variants.{Read, Refused}
 use Rattle.table.specs.Answers.{told, shown, number, place}

@@ -1,10 +1,11 @@
 -- What the reader's answers say: the number and place of each fault, and the table that a struct of four counts shows in a list of bytes.
 -- Assumes nothing.
-use Prim.Native.Nat.{ℕ}
+use Prim.Native.Nat.{ℕ, _≤_}
 use mathlib.Core.List.{List}
+use lib.ListN.{length}
 use Rattle.rules.specs.Table as rules
 use Rattle.rules.specs.Reading as reading
-use Rattle.rules.specs.Reading.{Counts, Reading, Is, tableAt}
+use Rattle.rules.specs.Reading.{Counts, Reading, Is, tableAt, endAt}
 use Rattle.table.specs.declared.Table.{Table}
 use Rattle.table.specs.declared.Fault.{Fault}
 use Rattle.table.specs.declared.Fault.the-variants as faults
@@ -62,6 +63,10 @@ counts t = record { nodes = t .nodes; locks = t .locks; resources = t .resources
 -- The table that the struct shows in the bytes b.
 unfoldable pub shown : Table → List ℕ → rules.Table
 shown t b = tableAt (counts t) b
+
+-- Every record of the table stands in the bytes b.
+abbrev pub Stands : Table → List ℕ → Type 0
+Stands t b = endAt (counts t) ≤ length b
 
 -- What an answer about the bytes b says: they are this table, or are refused with this number at this place.
 unfoldable pub told : List ℕ → Answer → Reading

@@ -4,6 +4,7 @@ mod fields;
 mod records;
 mod refusals;
 mod sections;
+pub mod standing;
 
 ghost use mathlib.Core.Path.{_≡_};
 ghost use Rattle.rules.specs.Reading.{read};

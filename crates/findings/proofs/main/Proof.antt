@@ -12,9 +12,6 @@ slice-aggregate-read-full c = search needs
 read-full-requires : tie.Need-read-full-requires
 read-full-requires c κs = search needs
 
-space-requires : tie.Need-space-requires
-space-requires c κs = search needs
-
 array-share-prefix-input : tie.Need-array-share-prefix-input
 array-share-prefix-input c = search needs
 
@@ -32,6 +29,18 @@ enum-known-a c = search needs
 
 enum-told : tie.Need-enum-told
 enum-told c = search needs
+
+array-share-prefix-input-2 : tie.Need-array-share-prefix-input-2
+array-share-prefix-input-2 c = search needs
+
+slice-aggregate-write-long : tie.Need-slice-aggregate-write-long
+slice-aggregate-write-long c = search needs
+
+slice-aggregate-write-long-2 : tie.Need-slice-aggregate-write-long-2
+slice-aggregate-write-long-2 c = search needs
+
+write-long-requires : tie.Need-write-long-requires
+write-long-requires c κs = search needs
 
 returns : tie.Need-returns
 returns c = search needs
@@ -56,13 +65,16 @@ main-spec =
     (tie.spec
     slice-aggregate-read-full
     read-full-requires
-    space-requires
     array-share-prefix-input
     slice-aggregate-listing
     slice-aggregate-listing-2
     listing-requires
     enum-known-a
     enum-told
+    array-share-prefix-input-2
+    slice-aggregate-write-long
+    slice-aggregate-write-long-2
+    write-long-requires
     returns
     array-share-prefix-out
     slice-aggregate-write-all

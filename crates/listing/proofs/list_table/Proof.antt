@@ -1,43 +1,30 @@
--- The pairs that stand in the bytes that were found are the races and the illegal pairs of the table.
-use mathlib.Core.Path.{ap, _∙_}
-use mathlib.Core.List.{List}
+-- The rows that were found hold the races and the illegal pairs of the table.
 use Prim.Native.Nat.{ℕ}
+use mathlib.Core.Path.{_∙_, ap, sym}
+use mathlib.Core.List.{List}
 use Rattle.rules.specs.Listing.{writingText}
-use Rattle.listing.proofs.Fillings.{text-found, filled-length}
-use native.Mathlib.Omega.{arith}
+use Rattle.table.proofs.Shown.{accesses-shown}
+use Rattle.listing.proofs.RowsFound.{race-within, illegal-within, text-found}
 use borrow.Author.Needs.{needs}
 use Rattle.listing.proofs.list_table.Statement.{statement}
 use Rattle.listing.proofs.list_table.Tie as tie
 
-slice-aggregate-race-bytes : tie.Need-slice-aggregate-race-bytes
-slice-aggregate-race-bytes c = search needs
+race-rows-requires : tie.Need-race-rows-requires
+race-rows-requires c κs = search needs
 
-race-bytes-requires : tie.Need-race-bytes-requires
-race-bytes-requires c κs = search needs
+illegal-rows-requires : tie.Need-illegal-rows-requires
+illegal-rows-requires c κs = search needs
 
-slice-aggregate-illegal-bytes : tie.Need-slice-aggregate-illegal-bytes
-slice-aggregate-illegal-bytes c = search needs
+widen-requires : tie.Need-widen-requires
+widen-requires c κs = search needs
 
-illegal-bytes-requires : tie.Need-illegal-bytes-requires
-illegal-bytes-requires c κs = search needs
-
-array-share-prefix-races : tie.Need-array-share-prefix-races
-array-share-prefix-races c = search needs
-
-slice-aggregate-list-pairs : tie.Need-slice-aggregate-list-pairs
-slice-aggregate-list-pairs c = filled-length (c .before .before .before .before .before .race-bytes .ensures)
-
-array-share-prefix-illegal : tie.Need-array-share-prefix-illegal
-array-share-prefix-illegal c = search needs
-
-slice-aggregate-list-pairs-2 : tie.Need-slice-aggregate-list-pairs-2
-slice-aggregate-list-pairs-2 c = filled-length (c .before .before .before .illegal-bytes .ensures)
-
-list-pairs-requires : tie.Need-list-pairs-requires
-list-pairs-requires c κs =
-    let g = c .before .before .before .before in
-    let f = g .before .before .before in
-    (omega (arith, filled-length (f .race-bytes .ensures)), omega (arith, filled-length (g .illegal-bytes .ensures)))
+list-rows-requires : tie.Need-list-rows-requires
+list-rows-requires c κs =
+    let w = c .before .before .before .before .before in
+    let i = w .before .before .before in
+    let r = i .before .before in
+    let a = r .before .before .before .before .before in
+    (a .pre .0, race-within _ (r .race-rows .ensures), rw (w .widen .ensures) (illegal-within _ (i .illegal-rows .ensures)))
 
 same-length : tie.Need-same-length
 same-length c = search needs
@@ -45,23 +32,19 @@ same-length c = search needs
 returns : tie.Need-returns
 returns c =
     let l = c .before .before in
-    let g = l .before .before .before .before .before in
-    let f = g .before .before .before in
-    let a = f .before .before .before .before .args in
-    l .list-pairs .ensures ∙ ap (λ (x : List ℕ). writingText x (a .out .now)) (text-found _ (f .race-bytes .ensures) (g .illegal-bytes .ensures))
+    let w = l .before .before .before .before .before .before in
+    let i = w .before .before .before in
+    let r = i .before .before in
+    let a = r .before .before .before .before .before in
+    l .list-rows .ensures ∙ ap (λ (x : List ℕ). writingText x (a .args .out .now)) (rw (w .widen .ensures) (text-found _ (a .pre .0) (sym (accesses-shown (a .args .t) (a .args .s .now))) (r .race-rows .ensures) (i .illegal-rows .ensures)))
 
 pub list-table-spec : {M : Type 1} → statement M
 list-table-spec =
     tie.close
     (tie.spec
-    slice-aggregate-race-bytes
-    race-bytes-requires
-    slice-aggregate-illegal-bytes
-    illegal-bytes-requires
-    array-share-prefix-races
-    slice-aggregate-list-pairs
-    array-share-prefix-illegal
-    slice-aggregate-list-pairs-2
-    list-pairs-requires
+    race-rows-requires
+    illegal-rows-requires
+    widen-requires
+    list-rows-requires
     same-length
     returns)

@@ -1,5 +1,5 @@
 use mathlib.Core.Path.{_∙_}
-use Rattle.table.proofs.Told.{told-table, told-fault, told-accepted}
+use Rattle.table.proofs.Told.{told-table, told-fault, told-accepted, told-stands}
 use Rattle.listing.proofs.Whole.{table-text, refused-text}
 use borrow.Author.Needs.{needs}
 use Rattle.listing.proofs.listing.Statement.{statement}
@@ -12,7 +12,10 @@ enum-known-a : tie.Need-enum-known-a
 enum-known-a c = search needs
 
 list-table-requires : tie.Need-list-table-requires
-list-table-requires c κs = told-accepted _ _ (c .before .before .before .before .read .ensures) _ (c .before .before .a .given .1)
+list-table-requires c κs =
+    let e = c .before .before .before .before .read .ensures in
+    let q = c .before .before .a .given .1 in
+    (told-accepted _ _ e _ q, told-stands _ _ e _ q)
 
 same-length : tie.Need-same-length
 same-length c = search needs

@@ -1,7 +1,7 @@
--- A table that was read is accepted, as the list asks.
+-- A table that was read is accepted and stands in the bytes, as the list asks.
 use Rattle.races.specs.Answers.{left}
 use Rattle.rules.specs.Calls.{illegalCall, reading}
-use Rattle.table.proofs.Told.{told-table, told-fault, told-accepted}
+use Rattle.table.proofs.Told.{told-table, told-fault, told-accepted, told-stands}
 use borrow.Author.Needs.{needs}
 use Rattle.races.proofs.illegal.Statement.{statement}
 use Rattle.races.proofs.illegal.Tie as tie
@@ -22,7 +22,7 @@ enum-known-a-2 c = search needs
 list-illegal-requires : tie.Need-list-illegal-requires
 list-illegal-requires c κs =
     let a = c .before .before in
-    told-accepted _ _ (a .before .before .read .ensures) _ (a .a2 .given .1)
+    (told-accepted _ _ (a .before .before .read .ensures) _ (a .a2 .given .1), told-stands _ _ (a .before .before .read .ensures) _ (a .a2 .given .1))
 
 same-length : tie.Need-same-length
 same-length c = search needs

@@ -4,6 +4,8 @@ use Rattle.table.proofs.Shown.{nodes-shown, locks-shown}
 use Rattle.machine.specs.Answers.{answered, left}
 use mathlib.Core.Path.{sym, _∙_}
 use Rattle.machine.proofs.Passed.{passes, fails}
+use Rattle.machine.proofs.HeldByOthers.{free-by-union}
+use Rattle.machine.proofs.OthersLeave.{kept, yielded}
 use Rattle.machine.proofs.Steppers.{has-place, is-shown-node, next-byte}
 use Rattle.machine.proofs.TestByTest.{malformed, unnamed, out-of-phase, not-to-take, lock-held, all-pass}
 use borrow.Author.Needs.{needs}
@@ -65,8 +67,8 @@ returns-3 c =
     (fails (f .fits2 .ensures) (c .before .if3 .taken))
     )
 
-may-take-requires : tie.Need-may-take-requires
-may-take-requires c κs =
+pass-requires : tie.Need-pass-requires
+pass-requires c κs =
     let x = c .before .before .before in
     let n = x .before in
     let a = n .before .before .before .before .before .before .before in (
@@ -75,14 +77,20 @@ may-take-requires c κs =
       rw (x .stepper .ensures) (is-shown-node _ _ (a .pre) _ (passes (n .before .named .ensures) (n .if2 .left))),
     )
 
+enum-known-others : tie.Need-enum-known-others
+enum-known-others c = search needs
+
+enum-told : tie.Need-enum-told
+enum-told c = search needs
+
 refused-requires-4 : tie.Need-refused-requires-4
 refused-requires-4 c κs = search needs
 
 returns-4 : tie.Need-returns-4
 unfolding number place
 returns-4 c =
-    let m = c .before .before in
-    let f = m .before .before in
+    let o = c .before .before .before in
+    let f = o .before .before in
     let x = f .before .before in
     let n = x .before in
     let w = n .before .before in
@@ -92,17 +100,14 @@ returns-4 c =
     (passes (n .before .named .ensures) (n .if2 .left))
     _ (x .stepper .ensures)
     (passes (f .before .fits2 .ensures) (f .if3 .left))
-    (fails (m .may-take .ensures) (c .before .if4 .taken))
+    (kept _ _ (o .pass .ensures) (c .before .enum-told .given .1))
     )
 
 free-requires : tie.Need-free-requires
 free-requires c κs =
-    let n = c .before .before .before .before .before .before .before in
-    let a = n .before .before .before .before .before .before .before in (
-      rw nodes-shown at (a .pre .tree .few),
-      rw locks-shown at (a .pre .fewLocks),
-      passes (n .before .named .ensures) (n .if2 .left),
-    )
+    let n = c .before .before .before .before .before .before .before .before in
+    let a = n .before .before .before .before .before .before .before in
+    (rw locks-shown at (a .pre .fewLocks), passes (n .before .named .ensures) (n .if2 .left))
 
 refused-requires-5 : tie.Need-refused-requires-5
 refused-requires-5 c κs = search needs
@@ -111,30 +116,31 @@ returns-5 : tie.Need-returns-5
 unfolding number place
 returns-5 c =
     let h = c .before .before in
-    let m = h .before .before in
-    let f = m .before .before .before in
+    let o = h .before .before in
+    let f = o .before .before .before .before in
     let x = f .before .before in
     let n = x .before in
     let w = n .before .before in
+    let y = yielded _ _ (o .before .before .pass .ensures) (o .others .given .1) in
     c .refused5 .ensures ∙ sym (
     lock-held _ _ _
     (passes (w .before .well-formed .ensures) (w .if1 .left))
     (passes (n .before .named .ensures) (n .if2 .left))
     _ (x .stepper .ensures)
     (passes (f .before .fits2 .ensures) (f .if3 .left))
-    (passes (m .before .may-take .ensures) (m .if4 .left))
-    (fails (h .free .ensures) (c .before .if5 .taken))
+    (y .0)
+    (fails (h .free .ensures ∙ free-by-union _ _ _ _ _ (x .stepper .ensures) (y .1)) (c .before .if4 .taken))
     )
 
 next-requires : tie.Need-next-requires
 next-requires c κs =
-    let n = c .before .before .before .before .before .before .before .before .before in
+    let n = c .before .before .before .before .before .before .before .before .before .before in
     let a = n .before .before .before .before .before .before .before in
     next-byte _ (a .pre) _ (passes (n .before .named .ensures) (n .if2 .left))
 
 array-write-p : tie.Need-array-write-p
 array-write-p c =
-    let x = c .before .before .before .before .before .before .before .before .before in
+    let x = c .before .before .before .before .before .before .before .before .before .before in
     let n = x .before in
     let a = n .before .before .before .before .before .before .before in
     rw (x .stepper .ensures) (has-place _ (a .pre) _ (passes (n .before .named .ensures) (n .if2 .left)))
@@ -143,19 +149,20 @@ returns-6 : tie.Need-returns-6
 unfolding left answered
 returns-6 c =
     let h = c .before in
-    let m = h .before .before .before in
-    let f = m .before .before .before in
+    let o = h .before .before .before in
+    let f = o .before .before .before .before in
     let x = f .before .before in
     let n = x .before in
     let w = n .before .before in
+    let y = yielded _ _ (o .before .before .pass .ensures) (o .others .given .1) in
     sym (
     all-pass _ _ _
     (passes (w .before .well-formed .ensures) (w .if1 .left))
     (passes (n .before .named .ensures) (n .if2 .left))
     _ (x .stepper .ensures)
     (passes (f .before .fits2 .ensures) (f .if3 .left))
-    (passes (m .before .may-take .ensures) (m .if4 .left))
-    (passes (h .before .free .ensures) (h .if5 .left))
+    (y .0)
+    (passes (h .before .free .ensures ∙ free-by-union _ _ _ _ _ (x .stepper .ensures) (y .1)) (h .if4 .left))
     _ (c .next .ensures)
     )
 
@@ -174,7 +181,9 @@ played-spec =
     fits-requires
     refused-requires-3
     returns-3
-    may-take-requires
+    pass-requires
+    enum-known-others
+    enum-told
     refused-requires-4
     returns-4
     free-requires

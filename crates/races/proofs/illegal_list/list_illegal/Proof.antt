@@ -4,8 +4,8 @@ use Rattle.rules.proofs.FewPairs.{illegals-few}
 use Rattle.table.specs.Answers.{shown}
 use Rattle.table.proofs.Shown.{accesses-shown}
 use Rattle.rows.specs.Writing.{rowsOf}
-use Rattle.rows.proofs.Bounds.{few-accesses}
-use Rattle.rows.proofs.RowPairs.{illegal-pairs}
+use Rattle.table.proofs.Bounds.{few-accesses}
+use Rattle.matrix.proofs.PairsFound.{illegal-pairs}
 use Rattle.races.proofs.ListAnswers.{no-room, room}
 use native.Mathlib.Omega.{arith}
 use mathlib.Core.Path.{_≡_, sym, _∙_, ap}
@@ -23,13 +23,13 @@ found c =
     let r = c .before .before in
     let w = r .before .before in
     let a = w .before .before .before in
-    rw (w .wide .ensures .0 ∙ sym (accesses-shown (a .args .t) (a .args .s .now))) (illegal-pairs _ (a .pre) (r .illegal-rows .ensures))
+    rw (w .wide .ensures .0 ∙ sym (accesses-shown (a .args .t) (a .args .s .now))) (illegal-pairs _ (a .pre .0) (r .illegal-rows .ensures))
 
 counted : (c : tie.After-count-words) → c .count-words .result ≡ length (illegals (shown (c .before .before .before .before .before .before .before .args .t) (c .before .before .before .before .before .before .before .args .s .now)))
 counted c = c .count-words .ensures ∙ ap length (found c)
 
 few : (c : tie.After-count-words) → c .count-words .result ≤ 4096
-few c = omega (arith, counted c, illegals-few _ (c .before .before .before .before .before .before .before .pre))
+few c = omega (arith, counted c, illegals-few _ (c .before .before .before .before .before .before .before .pre .0))
 
 wide-requires : tie.Need-wide-requires
 wide-requires c κs = search needs
@@ -40,7 +40,7 @@ illegal-rows-requires c κs = search needs
 count-words-requires : tie.Need-count-words-requires
 count-words-requires c κs =
     let a = c .before .before .before .before .before .before in
-    omega (arith, few-accesses _ _ (a .pre))
+    omega (arith, few-accesses _ _ (a .pre .0))
 
 mul-need : tie.Need-mul-need
 mul-need c = omega (arith, few c)
@@ -52,7 +52,7 @@ write-words-requires : tie.Need-write-words-requires
 write-words-requires c κs =
     let k = c .before .before .before in
     let a = k .before .before .before .before .before .before .before in
-    (omega (arith, few-accesses _ _ (a .pre)), omega (arith, k .count-words .ensures))
+    (omega (arith, few-accesses _ _ (a .pre .0)), omega (arith, k .count-words .ensures))
 
 same-length : tie.Need-same-length
 same-length c = search needs

@@ -3,6 +3,7 @@ use Rattle.rows.specs.Writing.{Wrote, rowsOf}
 use Rattle.rows.proofs.Written.{same-room}
 use Rattle.rows.proofs.RowPairs.{rows-begin, rows-go, rows-room}
 use Rattle.rules.specs.Bounded.{bytesOf}
+use Rattle.rules.proofs.FewPairs.{bytes-length}
 use borrow.Author.Needs.{needs}
 use native.Mathlib.Omega.{arith}
 use mathlib.Core.Path.{_≡_}
@@ -54,7 +55,12 @@ same-length : tie.Need-same-length Inv-loop μ-loop
 same-length c = same-room (c .before .loop .inv .1)
 
 returns : tie.Need-returns Inv-loop μ-loop
-returns c = let z : c .before .loop .i ≡ c .before .before .before .args .n = omega arith in rw z at (c .before .loop .inv .1 .bytes)
+returns c =
+    let l = c .before .loop in
+    let a = c .before .before .before .args in
+    let z : l .i ≡ a .n = omega arith in
+    let w = rw z at (l .inv .1) in
+    (w .bytes, omega (arith, w .place, bytes-length (rowsOf (a .low .now) (a .high .now) (a .n))))
 
 pub write-rows-spec : {M : Type 1} → statement M
 write-rows-spec =

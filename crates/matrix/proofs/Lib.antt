@@ -1,0 +1,13 @@
+pub mod Stores
+pub mod Gathering
+pub mod Preempting
+pub mod Marking
+pub mod Guarding
+pub mod Waiting
+pub mod Passing
+pub mod Filling
+pub mod Rowing
+pub mod Halves
+pub mod Inheriting
+pub mod PairsFound
+pub mod Unique

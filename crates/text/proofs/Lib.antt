@@ -1,0 +1,4 @@
+pub mod Runs
+pub mod Numbers
+pub mod Turns
+pub mod Unique
