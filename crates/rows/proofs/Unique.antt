@@ -5,6 +5,7 @@ use denote.Triple.Clauses.{AtExit}
 use denote.Ref.{now}
 use borrow.Fn.Kinds.{Dens, resT, endedOf}
 use mathlib.Core.Path.{_≡_, sym, _∙_}
+use Rattle.rows.proofs.Written.{wrote-same}
 use Rattle.rows.proofs.writing.place.Kinds as place-kinds
 use Rattle.rows.proofs.writing.place.Reads as place-reads
 use Rattle.rows.proofs.writing.count_row.Kinds as count-row-kinds
@@ -28,4 +29,4 @@ pub write-row-unique :
     (κs : Lfts 1) (a : Dens κs write-row-kinds.ps) (r₁ r₂ : resT write-row-kinds.r κs .Denot)
     (s₁ s₂ : AtExit (endedOf 1 write-row-kinds.ps write-row-kinds.r) κs)
     → write-row-reads.Post κs a r₁ s₁ → write-row-reads.Post κs a r₂ s₂ → (r₁ ≡ r₂) × (now (s₁ .1 .1 .1 .0) ≡ now (s₂ .1 .1 .1 .0))
-write-row-unique κs a r₁ r₂ s₁ s₂ p q = (p .place ∙ sym (q .place), p .bytes ∙ sym (q .bytes))
+write-row-unique κs a r₁ r₂ s₁ s₂ p q = wrote-same p q

@@ -34,6 +34,10 @@ one-past {l} {k} {b} h = record { bytes = sym (set-out l k b h); place = refl }
 pub same-room : {l vs m : List ℕ} {k r : ℕ} → Wrote l k vs m r → length m ≡ length l
 same-room {l} {vs} {m} {k} e = ap length (e .bytes) ∙ length-sets l k vs
 
+-- What is written, from where on, tells the buffer and the place after it.
+pub wrote-same : {l vs m₁ m₂ : List ℕ} {k r₁ r₂ : ℕ} → Wrote l k vs m₁ r₁ → Wrote l k vs m₂ r₂ → (r₁ ≡ r₂) × (m₁ ≡ m₂)
+wrote-same p q = (p .place ∙ sym (q .place), p .bytes ∙ sym (q .bytes))
+
 -- From the start on: the bytes, and what stood after them.
 pub from-start : {l vs m : List ℕ} {r : ℕ} → Wrote l 0 vs m r → length vs ≤ length l → m ≡ vs ++ drop (length vs) l
 from-start {l} {vs} e h =

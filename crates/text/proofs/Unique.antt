@@ -5,9 +5,7 @@ use denote.Ref.{now}
 use denote.Triple.Clauses.{AtExit}
 use borrow.Fn.Kinds.{Dens, resT, endedOf}
 use mathlib.Core.Path.{_≡_, sym, _∙_}
-use mathlib.Core.List.{List}
-use Prim.Native.Nat.{ℕ}
-use Rattle.rows.specs.Writing.{Wrote}
+use Rattle.rows.proofs.Written.{wrote-same}
 use Rattle.text.proofs.put.Kinds as put-kinds
 use Rattle.text.proofs.put.Reads as put-reads
 use Rattle.text.proofs.digits.Kinds as digits-kinds
@@ -18,10 +16,6 @@ use Rattle.text.proofs.put_part.Kinds as put-part-kinds
 use Rattle.text.proofs.put_part.Reads as put-part-reads
 use Rattle.text.proofs.put_line.Kinds as put-line-kinds
 use Rattle.text.proofs.put_line.Reads as put-line-reads
-
--- What is written, from where on, tells the buffer and the place after it.
-wrote-same : {l vs m₁ m₂ : List ℕ} {k r₁ r₂ : ℕ} → Wrote l k vs m₁ r₁ → Wrote l k vs m₂ r₂ → (r₁ ≡ r₂) × (m₁ ≡ m₂)
-wrote-same p q = (p .place ∙ sym (q .place), p .bytes ∙ sym (q .bytes))
 
 pub put-unique :
     (κs : Lfts 1) (a : Dens κs put-kinds.ps) (r₁ r₂ : resT put-kinds.r κs .Denot) (s₁ s₂ : AtExit (endedOf 1 put-kinds.ps put-kinds.r) κs)
