@@ -1,4 +1,6 @@
 // The C interface: each call answers the refusal's number (0 where there is none) times 2^32, plus the value or the refusal's place.
+#![tactic(auto)]
+
 mod stepping;
 
 ghost use Rattle.std.specs.Prelude.{◌≡◌, ◌+◌, ◌*◌, ◌<◌};

@@ -1,4 +1,6 @@
 // The findings program: reads a table from standard input, and writes its listing. One byte more than the longest table has is enough to read.
+#![tactic(auto)]
+
 ghost use Rattle.std.specs.Prelude.{◌≡◌, ◌≤◌, length};
 ghost use Rattle.rules.specs.Accepted.{Accepted};
 ghost use Rattle.table.specs.Answers.{shown, Stands};

@@ -1,4 +1,6 @@
 // The two sections of the listing: the number of pairs, and then a line for each, stored whole.
+#![tactic(auto)]
+
 mod ends;
 mod measure;
 pub mod pieces;

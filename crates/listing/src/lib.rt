@@ -1,4 +1,6 @@
 // The findings as text, into a lent buffer.
+#![tactic(auto)]
+
 mod refusal;
 pub mod words;
 
@@ -18,7 +20,7 @@ use matrix::race_rows;
 use table::{Answer, Fault, Table};
 
 // specs/Answers.antt gives the numbers. Of the faults only Room occurs.
-#[derive(Drop)]
+#[derive(Clone, Copy)]
 pub enum Written {
     Bytes(usize),
     Refused(Fault),

@@ -1,4 +1,6 @@
 // Lock sets: is a lock in a set, does a mask of it cover a task, do two sets share a blocking lock. The only room that knows bits.
+#![tactic(auto)]
+
 ghost use Rattle.std.specs.Prelude.{◌≡◌, ◌&&◌, ◌<◌, ◌≤◌, eqb};
 ghost use Rattle.rules.specs.Table.{blocking};
 ghost use Rattle.rules.specs.Locks.{in_set, covers, masked, blocked};

@@ -1,4 +1,6 @@
 // The stepping machine: its state, its steps, and the call that plays one step.
+#![tactic(auto)]
+
 mod places;
 mod steps;
 mod taking;
@@ -15,13 +17,13 @@ use table::{Answer, Fault, Table};
 use taking::{Others, pass};
 
 // One place a node number: what stands there says whether the task is idle, outside, or inside an access.
-#[derive(Drop)]
+#[derive(Clone, Copy)]
 pub struct State {
     pub places: [u8; 128],
 }
 
 // Start, close and finish name a task; open names an access.
-#[derive(Drop)]
+#[derive(Clone, Copy)]
 pub enum Step {
     Start(usize),
     Open(usize),
@@ -29,13 +31,13 @@ pub enum Step {
     Finish(usize),
 }
 
-#[derive(Drop)]
+#[derive(Clone, Copy)]
 pub enum StepAnswer {
     Granted,
     Refused(Fault),
 }
 
-#[derive(Drop)]
+#[derive(Clone, Copy)]
 pub struct Stepped {
     pub answer: StepAnswer,
     pub state: State,

@@ -13,7 +13,7 @@ use table::bytes::wide;
 use tree::may_preempt;
 
 // What the other tasks leave to the one that steps: an active one keeps the processor, or all yield it and together hold these locks.
-#[derive(Drop)]
+#[derive(Clone, Copy)]
 pub(crate) enum Others {
     Keep,
     Yield(u32),

@@ -1,5 +1,7 @@
 // Which accesses race with which, as rows of words: bit j of a word stands for access j, or 64 + j. What depends on one node, one lock or one
 // access alone is worked out once; then a row is a few operations on words.
+#![tactic(auto)]
+
 mod guards;
 pub mod illegal;
 mod nodes;

@@ -1,4 +1,6 @@
 // The tests of one pair: two accesses race, a lock is illegal for an access.
+#![tactic(auto)]
+
 ghost use Rattle.std.specs.Prelude.{◌≡◌, ◌<◌, ◌≤◌};
 ghost use Rattle.rules.specs.Races.{race, illegal};
 ghost use Rattle.table.specs.Answers.{shown};

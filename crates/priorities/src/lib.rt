@@ -1,4 +1,6 @@
 // Priorities and thresholds, written into a lent buffer.
+#![tactic(auto)]
+
 mod numbering;
 
 ghost use Rattle.std.specs.Prelude.{◌≡◌, ◌<◌};
@@ -13,7 +15,7 @@ use crate::numbering::{blank, number_node};
 use table::bytes::wide;
 use table::{Answer, Fault, Table};
 
-#[derive(Drop)]
+#[derive(Clone, Copy)]
 pub enum Numbered {
     Bytes(usize),
     Refused(Fault),

@@ -1,4 +1,6 @@
 // The races and the illegal pairs of a table, two lists, two bytes a pair, into a lent buffer.
+#![tactic(auto)]
+
 pub mod illegal_list;
 pub mod race_list;
 
@@ -10,7 +12,7 @@ use illegal_list::list_illegal;
 use race_list::list_races;
 use table::{Answer, Fault, Table};
 
-#[derive(Drop)]
+#[derive(Clone, Copy)]
 pub enum Listed {
     Pairs(usize),
     Refused(Fault),

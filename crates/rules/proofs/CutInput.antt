@@ -10,7 +10,7 @@ use lib.ListN.{length, take}
 use lib.Seq.{take_all, length-take-le, get_or-take}
 use borrow.Author.Tests.{leb-true}
 use Rattle.rules.specs.Table.{Table}
-use Rattle.rules.specs.Reading.{Check, Fine, Fault, byte, counts_of, table_at, table_of, end_at, end_section, first_fault, concluded, Is, read}
+use Rattle.rules.specs.Reading.{Check, Fine, Fault, counts_of, table_at, table_of, end_at, end_section, first_fault, concluded, Is, read}
 use Rattle.rules.proofs.Accepted.{end_fine, accepted}
 use Rattle.rules.proofs.Reading.{unless_fine, read_fine, read_table}
 use Rattle.rules.specs.Listing.{findings}

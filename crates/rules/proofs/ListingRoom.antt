@@ -8,7 +8,7 @@ use native.Mathlib.Nat.{suc-mul, mul-le-mul}
 use native.Mathlib.Omega.{arith}
 use lib.ListN.{length, length-append}
 use borrow.Author.Tests.{ltb-true}
-use Rattle.rules.specs.Bounded.{Pair, pairs}
+use Rattle.rules.specs.Bounded.{Pair}
 use Rattle.rules.specs.Table.{Table, is_task}
 use Rattle.rules.specs.Reading.{Reading, Is, Refused, byte, counts_of, resource_at, table_of, table_at, read}
 use Rattle.rules.specs.Accepted.{Accepted}

@@ -36,13 +36,13 @@ module _ (t : Tree) (f n : ℕ) (k : t.parent n < n) where
 
 module _ (t : Tree) (ok : Rooted t) where
   -- The climb from n that stops under p ends at a child of p.
-  under_child : (f p n : ℕ) → n ≤ f → p ≢ n → Above t p n
+  under_child : (p f n : ℕ) → n ≤ f → p ≢ n → Above t p n
       → (is_child t p (climbs_under f t p n) ≡ true) × Above t (climbs_under f t p n) n
-  under_child f p n l d here = absurd (d refl)
-  under_child zero p n l d (there h z u) = absurd (z (omega arith))
-  under_child (suc f) p n l d (there h z u) =
+  under_child p f n l d here = absurd (d refl)
+  under_child p zero n l d (there h z u) = absurd (z (omega arith))
+  under_child p (suc f) n l d (there h z u) =
       let k = ok.lower n h z in
-      side k (ℕ_discrete (t.parent n) p) (λ e. under_child f p (t.parent n) (omega arith) e u)
+      side k (ℕ_discrete (t.parent n) p) (λ e. under_child p f (t.parent n) (omega arith) e u)
     where
       side : t.parent n < n → Dec (t.parent n ≡ p)
           → (p ≢ t.parent n → (is_child t p (climbs_under f t p (t.parent n)) ≡ true) × Above t (climbs_under f t p (t.parent n)) (t.parent n))
@@ -52,7 +52,7 @@ module _ (t : Tree) (ok : Rooted t) where
 
   child_above_lem : (p n : ℕ) → p ≢ n → Above t p n → (is_child t p (child_above t p n) ≡ true) × Above t (child_above t p n) n
   unfolding child_above
-  child_above_lem p n = under_child n p n (omega arith)
+  child_above_lem p n = under_child p n n (omega arith)
 
   -- p is above x and n, but is not n, and what is above both is above p.
   record Common (x n p : ℕ) : Type 0 where

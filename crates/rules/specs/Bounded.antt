@@ -1,6 +1,6 @@
 -- Tests, sums and lists of pairs over the numbers below a bound, each built upwards, as a loop goes.
 -- Assumes nothing.
-use Rattle.std.specs.Prelude.{ℕ, zero, suc, ◌+◌, Bool, true, false, ◌&&◌, ◌||◌, cond, List, [], ◌∷◌, ◌++◌}
+use Rattle.std.specs.Prelude.{ℕ, zero, suc, Bool, true, false, ◌&&◌, ◌||◌, cond, List, [], ◌∷◌, ◌++◌}
 
 -- p holds at every number below n.
 unfoldable pub all_below : ℕ → (ℕ → Bool) → Bool

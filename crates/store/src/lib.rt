@@ -1,4 +1,6 @@
 // A whole line at once, where there is room: eight bytes at a time, so that the compiler makes one load and one store of them.
+#![tactic(auto)]
+
 ghost use Rattle.std.specs.Prelude.{◌≡◌, ◌++◌, ◌+◌, ◌-◌, ◌≤◌, length};
 ghost use Rattle.std.proofs.lemmas.List.Edits.{sets};
 ghost use Rattle.rows.specs.Writing.{Wrote};

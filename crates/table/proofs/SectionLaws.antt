@@ -13,7 +13,6 @@ use Rattle.rules.specs.Reading as reading
 use Rattle.rules.specs.Reading.{Counts, byte, nodes_at, locks_at, resources_at, accesses_at, max_resources, counts_of, ◌and_then◌, each, due, unless, count_check, resource_check, resource_section, concluded, Is}
 use Rattle.rules.proofs.Reading.{then_left, due_fine}
 use Rattle.rules.specs.Table as rules
-use Rattle.table.specs.declared.Table.{Table}
 use Rattle.table.specs.declared.Fault.{Fault}
 use Rattle.table.specs.declared.Fault.TheVariants.{Short}
 use Rattle.table.specs.declared.Answer.TheVariants.{Refused}

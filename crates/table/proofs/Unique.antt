@@ -6,7 +6,6 @@ use borrow.Fn.Kinds.{Dens, res_t, ended_of}
 use mathlib.Core.Path.{◌≡◌, sym, ◌∙◌, ap}
 use mathlib.Core.List.{List}
 use Prim.Native.Nat.{ℕ}
-use Rattle.rules.specs.Reading as reading
 use Rattle.table.specs.declared.Answer.{Answer}
 use Rattle.table.specs.declared.Answer.TheVariants.{Read, Refused}
 use Rattle.table.specs.Answers.{told, shown, number, place}

@@ -1,4 +1,6 @@
 // Tables, form 1: limits, kind numbers, faults, the fields of a record, and the reader. The only room that knows where a byte stands.
+#![tactic(auto)]
+
 pub mod bytes;
 mod fields;
 mod records;
@@ -11,7 +13,7 @@ ghost use Rattle.rules.specs.Reading.{read};
 ghost use Rattle.table.specs.Answers.{told};
 
 // A refusal: each case carries its place. specs/Answers.antt gives the numbers.
-#[derive(Drop)]
+#[derive(Clone, Copy)]
 pub enum Fault {
     Short(usize),
     Form(usize),
@@ -34,7 +36,7 @@ pub enum Fault {
 }
 
 // A table that stands in a slice: its four counts, which say where each record stands.
-#[derive(Drop)]
+#[derive(Clone, Copy)]
 pub struct Table {
     pub nodes: u8,
     pub locks: u8,
@@ -42,14 +44,14 @@ pub struct Table {
     pub accesses: u8,
 }
 
-#[derive(Drop)]
+#[derive(Clone, Copy)]
 pub enum Answer {
     Read(Table),
     Refused(Fault),
 }
 
 // What the test of one count or record finds.
-#[derive(Drop)]
+#[derive(Clone, Copy)]
 pub enum Check {
     Fine,
     Bad(Fault),

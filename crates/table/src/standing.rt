@@ -6,20 +6,20 @@ ghost use Rattle.table.specs.Answers.{shown, Stands};
 use crate::Table;
 use crate::bytes::wide;
 
-#[derive(Drop)]
+#[derive(Clone, Copy)]
 pub struct Node {
     pub parent: usize,
     pub kind: u8,
 }
 
-#[derive(Drop)]
+#[derive(Clone, Copy)]
 pub struct Lock {
     pub provider: usize,
     pub kind: u8,
     pub covered: usize,
 }
 
-#[derive(Drop)]
+#[derive(Clone, Copy)]
 pub struct Access {
     pub task: usize,
     pub resource: usize,

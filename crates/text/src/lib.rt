@@ -1,5 +1,7 @@
 // Words and numbers into a lent buffer. The same functions count and write: a byte past the end of the buffer only moves the
 // place on, so a run over an empty buffer answers how many bytes a text has.
+#![tactic(auto)]
+
 ghost use Rattle.std.specs.Prelude.{◌≡◌, [], ◌∷◌, ◌++◌, ◌+◌, ◌*◌, ◌<◌, ◌≤◌, length};
 ghost use Rattle.rules.specs.Listing.{decimal, fields, line};
 ghost use Rattle.rows.specs.Writing.{Wrote};

@@ -1,4 +1,6 @@
 // Preemption: the climbs from a node to its parents, and what the nearest common scheduler of two tasks allows.
+#![tactic(auto)]
+
 ghost use Rattle.std.specs.Prelude.{◌≡◌, ◌<◌};
 ghost use Rattle.rules.specs.Preemption.{at_or_below, is_ancestor, nearest_common, child_above, allows, may_preempt};
 ghost use Rattle.rules.specs.Calls.{preempts_call};
@@ -7,7 +9,7 @@ ghost use Rattle.tree.specs.Answers.{answered};
 
 use table::{Answer, Fault, Table};
 
-#[derive(Drop)]
+#[derive(Clone, Copy)]
 pub enum Preemption {
     Yes,
     No,

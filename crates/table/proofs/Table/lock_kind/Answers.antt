@@ -1,0 +1,7 @@
+use Rattle.rules.specs.Reading.{table_at}
+use Rattle.table.specs.Answers.{shown}
+use Rattle.table.proofs.Table.lock_kind.Goals as goal
+
+pub returns : goal.returns
+unfolding shown table_at
+returns c = rw (← c.lock_at.ensures) c.byte_at.ensures

@@ -1,0 +1,8 @@
+use Rattle.rules.specs.Reading.{table_at}
+use Rattle.table.specs.Answers.{shown}
+use borrow.Author.Rules.{rules}
+use Rattle.table.proofs.Table.node.Goals as goal
+
+pub returns : goal.returns
+unfolding shown table_at
+returns c = search rules

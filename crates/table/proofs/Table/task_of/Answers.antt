@@ -1,0 +1,7 @@
+use Rattle.rules.specs.Reading.{table_at}
+use Rattle.table.specs.Answers.{shown}
+use Rattle.table.proofs.Table.task_of.Goals as goal
+
+pub returns : goal.returns
+unfolding shown table_at
+returns c = rw (← c.access_at.ensures) c.number_at.ensures
