@@ -1,0 +1,15 @@
+-- The nodes below n show 255, 255, and the bytes after them are as at entry.
+use Prim.Native.Nat.{◌*◌, ◌-◌, ◌≤◌}
+use mathlib.Core.Path.{◌≡◌, refl, ◌∙◌, ap}
+use mathlib.Core.List.{◌++◌}
+use lib.ListN.{length, drop, length-set}
+use native.Mathlib.Omega.{arith}
+use Rattle.rules.specs.Priorities.{shown, unwalked}
+use Rattle.priorities.proofs.ShownWalks.{blank_none, blank_next}
+use Rattle.priorities.proofs.numbering.blank.Given as goal
+
+abbrev pub invariant-loop-n : goal.invariant-loop-n
+invariant-loop-n l = (l.n ≤ l.count) × (length l.out ≡ length l.initial.out) × (l.out ≡ shown unwalked l.n ++ drop (l.n * 2) l.initial.out)
+
+abbrev pub decreases-loop-n : goal.decreases-loop-n
+decreases-loop-n l = l.count - l.n

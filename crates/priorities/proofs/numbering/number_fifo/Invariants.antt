@@ -1,0 +1,17 @@
+-- The invariant is `Fifo`: the children of p below j have been given c, and `moved` says whether there was one.
+use Prim.Native.Nat.{◌-◌, ◌≤◌, ◌<◌}
+use mathlib.Core.Path.{◌≡◌, sym, ◌∙◌, ap}
+use mathlib.Core.Logic.{⊎_elim}
+use native.Mathlib.Omega.{arith}
+use borrow.Author.Rules.{rules}
+use Rattle.table.specs.Answers.{shown}
+use Rattle.table.proofs.Shown.{nodes_shown}
+use Rattle.priorities.proofs.ChildLists.{once, once_none, once_child, once_other}
+use Rattle.priorities.proofs.Visits.{Fifo, fifo_none, fifo_few, fifo_fits, fifo_child, fifo_other, fifo_end}
+use Rattle.priorities.proofs.numbering.number_fifo.Given as goal
+
+abbrev pub invariant-loop-j : goal.invariant-loop-j
+invariant-loop-j l = (l.p < l.j) × (l.j ≤ l.count) × (l.count ≡ (shown l.t l.s).tree.nodes) × (l.moved ≡ once (shown l.t l.s).tree l.p l.j) × Fifo (shown l.t l.s).tree l.p l.initial.out l.c l.j l.out l.c
+
+abbrev pub decreases-loop-j : goal.decreases-loop-j
+decreases-loop-j l = l.count - l.j

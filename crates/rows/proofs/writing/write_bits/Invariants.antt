@@ -1,0 +1,14 @@
+use Rattle.rows.specs.Writing.{bit_pairs}
+use Rattle.rows.proofs.Pairs.{First, first, no_pairs, StillWrites, writes_first, writes_pair, writes_end}
+use lib.Bits.{and_le_r}
+use native.Mathlib.Omega.{arith}
+use mathlib.Core.Path.{ap}
+use Prim.Native.Nat.{◌≤◌, ◌<◌, ◌+◌, ◌-◌, ◌^◌}
+use lib.ListN.{length, length-set}
+use Rattle.rows.proofs.writing.write_bits.Given as goal
+
+abbrev pub invariant-loop-x : goal.invariant-loop-x
+invariant-loop-x l = (l.x < 2 ^ 64) × (StillWrites l.initial.out l.at (bit_pairs 64 l.i l.from l.word) l.out l.k (bit_pairs 64 l.i l.from l.x))
+
+abbrev pub decreases-loop-x : goal.decreases-loop-x
+decreases-loop-x l = l.x

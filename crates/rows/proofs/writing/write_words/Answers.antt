@@ -1,0 +1,24 @@
+use Rattle.rows.proofs.Pairs.{row_of_lem}
+use Rattle.rows.proofs.Written.{next}
+use native.Mathlib.Omega.{arith}
+use mathlib.Core.Path.{ap}
+use lib.ListN.{length, length-append}
+use lib.Seq.{length-sets}
+use borrow.Author.Rules.{rules}
+use Rattle.rows.proofs.writing.write_words.Goals as goal
+
+pub write_word-k-requires : goal.write_word-k-requires
+write_word-k-requires c =
+    (omega arith, omega (arith, c.requires, rw length-append at (ap length (row_of_lem c.args.low c.args.high c.args.i))))
+
+pub write_word-requires : goal.write_word-requires
+write_word-requires c =
+    let e = c.write_word-k.ensures in (
+      omega arith,
+      omega (arith, c.requires, e.place, rw length-sets at (ap length e.bytes), rw length-append at (ap length (row_of_lem c.args.low c.args.high c.args.i))),
+    )
+
+pub returns : goal.returns
+returns c =
+    let a = c.args in
+    rw (row_of_lem a.low a.high a.i) (next c.write_word-k.ensures c.write_word.ensures)
