@@ -2,7 +2,6 @@
 -- Assumes nothing.
 use Rattle.std.specs.Prelude.{ℕ, ◌+◌, ◌-◌, ◌^◌, ◌<◌, ◌≤◌, ◌≡◌, Bool, ◌&&◌, cond, List, ltb, length, get_or}
 use Rattle.rules.specs.Locks.{in_set}
-use Rattle.rules.specs.Races.{race}
 
 -- The w bits of a word say which of the numbers from b on are below n and pass p.
 pub record Row (w : ℕ) (p : ℕ → Bool) (b n word : ℕ) : Type 0 where

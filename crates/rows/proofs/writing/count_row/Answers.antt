@@ -1,7 +1,6 @@
 use Rattle.rows.proofs.Pairs.{row_length}
 use lib.Count.{ones-le}
 use native.Mathlib.Omega.{arith}
-use borrow.Author.Rules.{rules}
 use Rattle.rows.proofs.writing.count_row.Goals as goal
 
 pub overflow_add-result : goal.overflow_add-result

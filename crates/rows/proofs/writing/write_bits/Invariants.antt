@@ -1,10 +1,6 @@
 use Rattle.rows.specs.Writing.{bit_pairs}
-use Rattle.rows.proofs.Pairs.{First, first, no_pairs, StillWrites, writes_first, writes_pair, writes_end}
-use lib.Bits.{and_le_r}
-use native.Mathlib.Omega.{arith}
-use mathlib.Core.Path.{ap}
-use Prim.Native.Nat.{◌≤◌, ◌<◌, ◌+◌, ◌-◌, ◌^◌}
-use lib.ListN.{length, length-set}
+use Rattle.rows.proofs.Pairs.{StillWrites}
+use Prim.Native.Nat.{◌<◌, ◌^◌}
 use Rattle.rows.proofs.writing.write_bits.Given as goal
 
 abbrev pub invariant-loop-x : goal.invariant-loop-x

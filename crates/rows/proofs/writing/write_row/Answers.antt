@@ -1,6 +1,5 @@
 use Rattle.rows.proofs.Pairs.{row_of_lem, no_pairs}
 use Rattle.rows.proofs.Written.{none}
-use borrow.Author.Rules.{rules}
 use Rattle.rows.proofs.writing.write_row.Goals as goal
 
 pub returns : goal.returns

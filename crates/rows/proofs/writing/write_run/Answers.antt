@@ -1,9 +1,8 @@
-use Rattle.rows.specs.Writing.{run_pairs}
-use Rattle.rows.proofs.Pairs.{StillWrites, writes_first, writes_pair, writes_end}
+use Rattle.rows.proofs.Pairs.{writes_first, writes_pair, writes_end}
 use Rattle.rows.proofs.Runs.{run_turn, run_end}
 use native.Mathlib.Omega.{arith}
 use mathlib.Core.Path.{◌≡◌}
-use Prim.Native.Nat.{◌≤◌, ◌+◌, ◌*◌, ◌-◌}
+use Prim.Native.Nat.{◌+◌, ◌-◌}
 use lib.ListN.{length-set}
 use Rattle.rows.proofs.writing.write_run.Goals as goal
 

@@ -1,10 +1,7 @@
 use Rattle.rows.specs.Writing.{run_pairs}
-use Rattle.rows.proofs.Pairs.{StillWrites, writes_first, writes_pair, writes_end}
-use Rattle.rows.proofs.Runs.{run_turn, run_end}
-use native.Mathlib.Omega.{arith}
+use Rattle.rows.proofs.Pairs.{StillWrites}
 use mathlib.Core.Path.{◌≡◌}
 use Prim.Native.Nat.{◌≤◌, ◌+◌, ◌*◌, ◌-◌}
-use lib.ListN.{length-set}
 use Rattle.rows.proofs.writing.write_run.Given as goal
 
 abbrev pub invariant-loop-j : goal.invariant-loop-j

@@ -1,10 +1,6 @@
 use Rattle.rows.specs.Writing.{bit_pairs}
-use Rattle.rows.proofs.Pairs.{no_pairs, StillWrites, writes_first, writes_piece, writes_end}
-use Rattle.rows.proofs.Runs.{Zeros, zeros, Chunk, chunk, run_length}
-use native.Mathlib.Omega.{arith}
-use mathlib.Core.Path.{◌≡◌, ap}
-use Prim.Native.Nat.{◌≤◌, ◌<◌, ◌+◌, ◌*◌, ◌-◌, ◌^◌}
-use lib.ListN.{length, length-append}
+use Rattle.rows.proofs.Pairs.{StillWrites}
+use Prim.Native.Nat.{◌≤◌, ◌<◌, ◌+◌, ◌-◌, ◌^◌}
 use Rattle.rows.proofs.writing.write_runs.Given as goal
 
 abbrev pub invariant-loop-x : goal.invariant-loop-x

@@ -4,7 +4,6 @@ use native.Mathlib.Omega.{arith}
 use mathlib.Core.Path.{ap}
 use lib.ListN.{length, length-append}
 use lib.Seq.{length-sets}
-use borrow.Author.Rules.{rules}
 use Rattle.rows.proofs.writing.write_words.Goals as goal
 
 pub write_word-k-requires : goal.write_word-k-requires
