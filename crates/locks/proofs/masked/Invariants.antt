@@ -1,0 +1,14 @@
+-- No lock before k is in the set and covers x.
+use Rattle.rules.specs.Bounded.{some_below}
+use Rattle.table.specs.Answers.{shown}
+use mathlib.Core.Path.{◌≡◌}
+use mathlib.Core.Bool.{false, ◌&&◌}
+use Prim.Native.Nat.{◌≤◌, ◌-◌}
+use Rattle.rules.specs.Locks.{in_set, covers}
+use Rattle.locks.proofs.masked.Given as goal
+
+abbrev pub invariant-loop-k : goal.invariant-loop-k
+invariant-loop-k l = (l.k ≤ l.count) × (l.count ≡ (shown l.t l.s).locks) × (some_below l.k (λ j. in_set j l.set && covers (shown l.t l.s) j l.x) ≡ false)
+
+abbrev pub decreases-loop-k : goal.decreases-loop-k
+decreases-loop-k l = l.count - l.k
