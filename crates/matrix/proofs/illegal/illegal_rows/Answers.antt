@@ -1,0 +1,6 @@
+use Rattle.matrix.proofs.Inheriting.{illegal_rows_are}
+use Rattle.matrix.proofs.illegal.illegal_rows.Goals as goal
+
+pub returns : goal.returns
+returns c =
+    illegal_rows_are c.args.t c.args.s.now c.requires.0 c.blocking_locks-b.ensures c.provided.ensures c.inherit.ensures c.unprovided.ensures
