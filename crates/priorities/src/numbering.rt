@@ -32,7 +32,7 @@ fn give(out: &mut [u8], n: usize, p: usize, h: usize)
 }
 
 // Numbers node n and all below it from c on, and gives the next number.
-#[cycle(number_children_number_node)]
+#[cycle(walk)]
 pub(crate) fn number_node(t: Table, s: &[u8], out: &mut [u8], n: usize, c: usize) -> usize
     requires { Ready (shown t s.now).tree out.old n c }
     ensures { Visited (shown t s.now).tree n out.old c out.new result }
@@ -52,10 +52,10 @@ pub(crate) fn number_node(t: Table, s: &[u8], out: &mut [u8], n: usize, c: usize
 }
 
 // Kind 1: the children, one after the other.
-#[cycle(number_children_number_node)]
+#[cycle(walk)]
 fn number_children(t: Table, s: &[u8], out: &mut [u8], p: usize, c: usize) -> usize
     requires ready { Ready (shown t s.now).tree out.old p c }
-    requires p_value { (shown t s.now).tree.kind p ≡ preemptive }
+    requires of_kind { (shown t s.now).tree.kind p ≡ preemptive }
     ensures { Visited (shown t s.now).tree p out.old c out.new result }
 {
     let count = wide(t.nodes);
@@ -73,7 +73,7 @@ fn number_children(t: Table, s: &[u8], out: &mut [u8], p: usize, c: usize) -> us
 // Kind 2: consecutive priorities, and the first of them is the threshold of each.
 fn number_non_preemptive(t: Table, s: &[u8], out: &mut [u8], p: usize, c: usize) -> usize
     requires ready { Ready (shown t s.now).tree out.old p c }
-    requires p_value { (shown t s.now).tree.kind p ≡ non_preemptive }
+    requires of_kind { (shown t s.now).tree.kind p ≡ non_preemptive }
     ensures { Visited (shown t s.now).tree p out.old c out.new result }
 {
     let count = wide(t.nodes);
@@ -92,7 +92,7 @@ fn number_non_preemptive(t: Table, s: &[u8], out: &mut [u8], p: usize, c: usize)
 // FIFO: one number for all; the counter moves on once if there was a task.
 fn number_fifo(t: Table, s: &[u8], out: &mut [u8], p: usize, c: usize) -> usize
     requires ready { Ready (shown t s.now).tree out.old p c }
-    requires p_value { (shown t s.now).tree.kind p ≡ fifo }
+    requires of_kind { (shown t s.now).tree.kind p ≡ fifo }
     ensures { Visited (shown t s.now).tree p out.old c out.new result }
 {
     let count = wide(t.nodes);

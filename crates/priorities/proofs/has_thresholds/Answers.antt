@@ -1,13 +1,7 @@
-use Prim.Native.Nat.{◌-◌, ◌≤◌}
 use mathlib.Core.Path.{◌≡◌, sym, ◌∙◌}
-use mathlib.Core.Bool.{true}
 use native.Mathlib.Omega.{arith}
-use borrow.Author.Rules.{rules}
-use Rattle.rules.specs.Bounded.{all_below}
-use Rattle.rules.proofs.Bools.{not_true, not_false}
 use Rattle.table.specs.Answers.{shown}
 use Rattle.table.proofs.Shown.{nodes_shown}
-use Rattle.priorities.specs.Numbering.{may_have}
 use Rattle.priorities.proofs.EachNode.{each_none, each_next, each_has, one_not}
 use Rattle.priorities.proofs.has_thresholds.Goals as goal
 

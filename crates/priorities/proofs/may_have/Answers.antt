@@ -1,6 +1,5 @@
 use borrow.Author.Tests.{ne_eqb}
 use Rattle.priorities.specs.Numbering.{may_have}
-use borrow.Author.Rules.{rules}
 use Rattle.priorities.proofs.may_have.Goals as goal
 
 pub returns-then-k-eq-TIME_SLICED : goal.returns-then-k-eq-TIME_SLICED

@@ -1,14 +1,10 @@
 -- Blanking and the walk from the root leave the defined bytes; each refusal comes before anything is written.
-use Prim.Native.Nat.{◌*◌}
 use mathlib.Core.Path.{◌≡◌, sym, ◌∙◌}
 use native.Mathlib.Omega.{arith}
-use lib.ListN.{length}
 use Rattle.rules.proofs.Accepted.{accepted}
-use Rattle.rules.proofs.Bools.{not_true, not_false}
 use Rattle.table.specs.Answers.{shown}
 use Rattle.table.proofs.Shown.{nodes_shown}
-use Rattle.priorities.proofs.WholeCall.{roomy, scant, call_none, call_short, call_done, root_ready}
-use borrow.Author.Rules.{rules}
+use Rattle.priorities.proofs.WholeCall.{call_none, call_short, call_done, root_ready}
 use Rattle.priorities.proofs.number.Goals as goal
 
 pub returns-then-not-has : goal.returns-then-not-has
@@ -20,13 +16,13 @@ pub returns-then-not-fits : goal.returns-then-not-fits
 returns-then-not-fits c =
     let h = c.has_thresholds-has in
     let n = nodes_shown c.args.t c.args.s.now in
-    call_short _ _ _ c.requires _ (omega arith) (sym h.ensures ∙ c.if-not-has.false) (scant _ _ c.if-not-fits.true)
+    call_short _ _ _ c.requires _ (omega arith) (sym h.ensures ∙ c.if-not-has.false) c.if-not-fits.true
 
 pub blank-requires : goal.blank-requires
 blank-requires c =
     let n = nodes_shown c.args.t c.args.s.now in
     let w = c.wide-count in
-    omega (arith, (accepted _ _ c.requires).tree.few, roomy (w.result * 2) (length c.args.out.now) c.if-not-fits.false)
+    omega (arith, (accepted _ _ c.requires).tree.few, c.if-not-fits.false)
 
 pub number_node-requires : goal.number_node-requires
 number_node-requires c =
@@ -41,4 +37,4 @@ returns c =
     let h = c.has_thresholds-has in
     let n : w.result ≡ (shown c.args.t c.args.s.now).tree.nodes = w.ensures.0 ∙ sym (nodes_shown _ _) in
     call_done _ _ _ c.requires (sym h.ensures ∙ c.if-not-has.false) _ (rw n at c.blank.ensures)
-    _ (omega arith) (roomy _ _ c.if-not-fits.false) _ _ c.number_node.ensures
+    _ (omega arith) c.if-not-fits.false _ _ c.number_node.ensures

@@ -1,6 +1,5 @@
 use Rattle.table.proofs.Told.{told_table, told_fault}
 use Rattle.priorities.proofs.WholeCall.{call_refused}
-use borrow.Author.Rules.{rules}
 use Rattle.priorities.proofs.thresholds.Goals as goal
 
 pub number-requires : goal.number-requires

@@ -1,9 +1,6 @@
-use Prim.Native.Nat.{◌*◌, ◌-◌, ◌≤◌}
 use mathlib.Core.Path.{◌≡◌, refl, ◌∙◌, ap}
-use mathlib.Core.List.{◌++◌}
-use lib.ListN.{length, drop, length-set}
+use lib.ListN.{length, length-set}
 use native.Mathlib.Omega.{arith}
-use Rattle.rules.specs.Priorities.{shown, unwalked}
 use Rattle.priorities.proofs.ShownWalks.{blank_none, blank_next}
 use Rattle.priorities.proofs.numbering.blank.Goals as goal
 

@@ -1,11 +1,9 @@
 -- The nodes below n show 255, 255, and the bytes after them are as at entry.
 use Prim.Native.Nat.{◌*◌, ◌-◌, ◌≤◌}
-use mathlib.Core.Path.{◌≡◌, refl, ◌∙◌, ap}
+use mathlib.Core.Path.{◌≡◌}
 use mathlib.Core.List.{◌++◌}
-use lib.ListN.{length, drop, length-set}
-use native.Mathlib.Omega.{arith}
+use lib.ListN.{length, drop}
 use Rattle.rules.specs.Priorities.{shown, unwalked}
-use Rattle.priorities.proofs.ShownWalks.{blank_none, blank_next}
 use Rattle.priorities.proofs.numbering.blank.Given as goal
 
 abbrev pub invariant-loop-n : goal.invariant-loop-n

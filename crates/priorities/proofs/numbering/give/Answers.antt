@@ -1,6 +1,5 @@
 use lib.ListN.{length-set}
 use native.Mathlib.Omega.{arith}
-use borrow.Author.Rules.{rules}
 use Rattle.priorities.proofs.numbering.give.Goals as goal
 
 pub bounds-out-n-2 : goal.bounds-out-n-2

@@ -1,13 +1,9 @@
 -- The invariant is `Fifo`: the children of p below j have been given c, and `moved` says whether there was one.
 use Prim.Native.Nat.{◌-◌, ◌≤◌, ◌<◌}
-use mathlib.Core.Path.{◌≡◌, sym, ◌∙◌, ap}
-use mathlib.Core.Logic.{⊎_elim}
-use native.Mathlib.Omega.{arith}
-use borrow.Author.Rules.{rules}
+use mathlib.Core.Path.{◌≡◌}
 use Rattle.table.specs.Answers.{shown}
-use Rattle.table.proofs.Shown.{nodes_shown}
-use Rattle.priorities.proofs.ChildLists.{once, once_none, once_child, once_other}
-use Rattle.priorities.proofs.Visits.{Fifo, fifo_none, fifo_few, fifo_fits, fifo_child, fifo_other, fifo_end}
+use Rattle.priorities.proofs.ChildLists.{once}
+use Rattle.priorities.proofs.Visits.{Fifo}
 use Rattle.priorities.proofs.numbering.number_fifo.Given as goal
 
 abbrev pub invariant-loop-j : goal.invariant-loop-j

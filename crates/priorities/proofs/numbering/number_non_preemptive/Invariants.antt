@@ -1,12 +1,8 @@
 -- The invariant is `KindTwo`: the children of p below j have been given their numbers. Its laws are the turns of the loop.
 use Prim.Native.Nat.{◌-◌, ◌≤◌, ◌<◌}
-use mathlib.Core.Path.{◌≡◌, sym, ◌∙◌}
-use mathlib.Core.Logic.{⊎_elim}
-use native.Mathlib.Omega.{arith}
-use borrow.Author.Rules.{rules}
+use mathlib.Core.Path.{◌≡◌}
 use Rattle.table.specs.Answers.{shown}
-use Rattle.table.proofs.Shown.{nodes_shown}
-use Rattle.priorities.proofs.Visits.{KindTwo, two_none, two_few, two_child, two_other, two_end}
+use Rattle.priorities.proofs.Visits.{KindTwo}
 use Rattle.priorities.proofs.numbering.number_non_preemptive.Given as goal
 
 abbrev pub invariant-loop-j : goal.invariant-loop-j
