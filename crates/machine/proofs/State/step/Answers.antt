@@ -1,6 +1,5 @@
 use Rattle.rules.specs.Calls.{step_call, reading}
 use Rattle.table.proofs.Told.{told_table, told_fault, told_accepted}
-use borrow.Author.Rules.{rules}
 use Rattle.machine.proofs.State.step.Goals as goal
 
 pub returns-in-Refused : goal.returns-in-Refused

@@ -1,6 +1,5 @@
 use Rattle.rules.specs.Machine.{fits}
 use Rattle.machine.specs.Answers.{step_of}
-use borrow.Author.Rules.{rules}
 use Rattle.machine.proofs.Step.fits.Goals as goal
 
 pub returns-in-Start : goal.returns-in-Start

@@ -4,7 +4,6 @@ use Rattle.rules.specs.Machine.{named}
 use Rattle.table.proofs.Shown.{accesses_shown}
 use Rattle.machine.specs.Answers.{step_of}
 use Rattle.machine.specs.OtherTasks.{free_of}
-use borrow.Author.Rules.{rules}
 use Rattle.machine.proofs.Step.free.Goals as goal
 
 pub returns-in-Start : goal.returns-in-Start

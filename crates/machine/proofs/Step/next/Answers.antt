@@ -1,7 +1,6 @@
 use native.Mathlib.Omega.{arith}
 use Rattle.rules.specs.Machine.{next}
 use Rattle.machine.specs.Answers.{step_of}
-use borrow.Author.Rules.{rules}
 use Rattle.machine.proofs.Step.next.Goals as goal
 
 pub returns-in-Start : goal.returns-in-Start

@@ -3,7 +3,6 @@ use borrow.Author.Tests.{ltb-true}
 use Rattle.rules.specs.Machine.{stepper, named}
 use Rattle.table.proofs.Shown.{accesses_shown}
 use Rattle.machine.specs.Answers.{step_of}
-use borrow.Author.Rules.{rules}
 use Rattle.machine.proofs.Step.stepper.Goals as goal
 
 pub returns-in-Start : goal.returns-in-Start

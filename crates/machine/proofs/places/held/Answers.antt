@@ -1,6 +1,5 @@
 use borrow.Author.Tests.{lt-leb, le-leb}
 use Rattle.rules.specs.Machine.{held}
-use borrow.Author.Rules.{rules}
 use Rattle.machine.proofs.places.held.Goals as goal
 
 pub returns-then-v-lt-INSIDE : goal.returns-then-v-lt-INSIDE

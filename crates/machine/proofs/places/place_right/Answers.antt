@@ -4,9 +4,7 @@ use mathlib.Core.Logic.{◌≢◌}
 use native.Mathlib.Omega.{arith}
 use borrow.Author.Tests.{eq-eqb, ne_eqb, lt-ltb, le-ltb, le-leb}
 use Rattle.rules.specs.Machine.{place_right}
-use Rattle.rules.proofs.Bools.{not_true, not_false}
 use Rattle.table.proofs.Shown.{accesses_shown}
-use borrow.Author.Rules.{rules}
 use Rattle.machine.proofs.places.place_right.Goals as goal
 
 two-or-more : (v : ℕ) → v ≢ 0 → v ≢ 1 → 2 ≤ v

@@ -1,13 +1,8 @@
 use Rattle.machine.proofs.Passed.{passes, fails}
 use borrow.Author.Tests.{eq-eqb}
-use Prim.Native.Nat.{◌-◌, ◌≤◌}
-use mathlib.Core.Path.{◌≡◌, sym}
-use mathlib.Core.Bool.{true}
+use mathlib.Core.Path.{sym}
 use native.Mathlib.Omega.{arith}
-use borrow.Author.Rules.{rules}
-use Rattle.rules.specs.Bounded.{all_below}
-use Rattle.rules.specs.Machine.{place, place_right, well_formed}
-use Rattle.table.specs.Answers.{shown}
+use Rattle.rules.specs.Machine.{well_formed}
 use Rattle.machine.proofs.AllTested.{all_yet, all_here, failed, all}
 use Rattle.machine.proofs.places.well_formed.Goals as goal
 

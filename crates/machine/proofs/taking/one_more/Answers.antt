@@ -2,9 +2,7 @@
 use borrow.Author.Tests.{eq-eqb, ne_eqb}
 use lib.Bits.{or_zero_r}
 use Rattle.rules.specs.Machine.{held}
-use Rattle.rules.proofs.Bools.{not_true, not_false}
 use Rattle.machine.specs.OtherTasks.{leaves}
-use borrow.Author.Rules.{rules}
 use Rattle.machine.proofs.taking.one_more.Goals as goal
 
 pub returns-then-u-x : goal.returns-then-u-x

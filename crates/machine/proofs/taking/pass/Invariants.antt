@@ -1,16 +1,11 @@
 -- All before u yield, and together hold these locks.
 use Prim.Native.Nat.{◌-◌, ◌≤◌}
-use mathlib.Core.Path.{◌≡◌, refl, sym, ◌∙◌}
+use mathlib.Core.Path.{◌≡◌}
 use mathlib.Core.Bool.{true}
-use native.Mathlib.Omega.{arith}
-use borrow.Author.Rules.{rules}
 use Rattle.rules.specs.Bounded.{all_below}
 use Rattle.rules.specs.Machine.{place}
 use Rattle.table.specs.Answers.{shown}
-use Rattle.table.proofs.Shown.{nodes_shown}
 use Rattle.machine.specs.OtherTasks.{yields, held_below}
-use Rattle.machine.proofs.AllTested.{all_yet, all_here}
-use Rattle.machine.proofs.OthersLeave.{kept, yielded, one_more_holds, one_keeps, all_yield}
 use Rattle.machine.proofs.taking.pass.Given as goal
 
 abbrev pub invariant-loop-u : goal.invariant-loop-u
