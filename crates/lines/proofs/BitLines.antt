@@ -14,7 +14,7 @@ use Rattle.rules.specs.Locks.{in_set}
 use Rattle.rules.specs.Listing.{lines}
 use Rattle.rows.specs.Writing.{bit_pairs, row_of}
 use Rattle.rows.proofs.Bits.{has_low, has_half}
-use Rattle.rows.proofs.Pairs.{First, first, row_of_lem}
+use Rattle.rows.proofs.Pairs.{First, row_of_lem}
 use Rattle.lines.specs.Lines.{bit_lines}
 
 abbrev pub pair : ℕ → ℕ → Pair
