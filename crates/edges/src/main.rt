@@ -4,7 +4,10 @@
 mod listings;
 mod reading;
 
-fn main() {
-    reading::run();
-    listings::run();
+use std::io;
+
+fn main(rt: HostRuntime) -> io::Result<()> {
+    let mut to = rt.stdout();
+    reading::run(&mut to)?;
+    listings::run(&mut to)
 }

@@ -1,7 +1,7 @@
 // The findings program: reads a table from standard input, and writes its listing. One byte more than the longest table has is enough to read.
 #![tactic(auto)]
 
-ghost use Rattle.std.specs.Prelude.{◌≡◌, ◌≤◌, length};
+ghost use Rattle.std.specs.Prelude.{◌≡◌, ◌≤◌, length, IfOk};
 ghost use Rattle.rules.specs.Accepted.{Accepted};
 ghost use Rattle.table.specs.Answers.{shown, Stands};
 ghost use Rattle.lines.specs.Lines.{RowsWithin};
@@ -12,6 +12,7 @@ use listing::words::widen;
 use matrix::illegal::illegal_rows;
 use matrix::race_rows;
 use races::race_list::count_rows;
+use std::io::{self, Read, Write};
 use table::bytes::wide;
 use table::{Answer, Table};
 use text::put_line;
@@ -25,15 +26,31 @@ fn fewer(a: usize, b: usize) -> usize
     b
 }
 
-// The lines of a section, 16 accesses at a time; false where a write fails, after which nothing more is written.
-fn write_lines(
+// Reads until the buffer is full or the input ends, since one read may give less than there is, and answers how many bytes came.
+fn fill<R: Read>(from: &mut R, input: &mut [u8]) -> io::Result<usize>
+    ensures { IfOk result (λ n. n ≤ length input.new) }
+{
+    let mut n = 0;
+    while n < input.len() {
+        let more = from.read(&mut input[n..])?;
+        if more == 0 {
+            return Ok(n);
+        }
+        n += more;
+    }
+    Ok(n)
+}
+
+// The lines of a section, 16 accesses at a time. Where a write fails nothing more is written.
+fn write_lines<W: Write>(
+    to: &mut W,
     out: &mut [u8],
     racing: bool,
     t: Table,
     s: &[u8],
     low: &[u64; 128],
     high: &[u64; 128],
-) -> bool
+) -> io::Result<()>
     requires { (Accepted (shown t s.now)) × (RowsWithin racing (shown t s.now) low.now high.now) × (65536 ≤ length out.old) }
     ensures { length out.new ≡ length out.old }
 {
@@ -42,17 +59,16 @@ fn write_lines(
     while i < count {
         let n = fewer(16, count - i);
         let k = put_some(out, racing, t, s, low, high, i, n);
-        if !io::write_all(1, &out[..k]) {
-            return false;
-        }
+        to.write_all(&out[..k])?;
         i += 16;
     }
-    true
+    Ok(())
 }
 
 // A section as `section` (rules/specs/Listing.antt) has it: the line with the number of its pairs, and then their lines, which are those of its
 // pieces one after the other (`lines_pieces`, lines/proofs/SectionPieces.antt).
-fn write_section(
+fn write_section<W: Write>(
+    to: &mut W,
     out: &mut [u8],
     word: &[u8],
     racing: bool,
@@ -60,57 +76,53 @@ fn write_section(
     s: &[u8],
     low: &[u64; 128],
     high: &[u64; 128],
-) -> bool
+) -> io::Result<()>
     requires { (length word.now ≤ 8) × (Accepted (shown t s.now)) × (RowsWithin racing (shown t s.now) low.now high.now) × (65536 ≤ length out.old) }
     ensures { length out.new ≡ length out.old }
 {
     let ns = [count_rows(wide(t.accesses), low, high)];
     let k = put_line(out, 0, word, &ns);
-    if !io::write_all(1, &out[..k]) {
-        return false;
-    }
-    write_lines(out, racing, t, s, low, high)
+    to.write_all(&out[..k])?;
+    write_lines(to, out, racing, t, s, low, high)
 }
 
 // The listing of the table t that was read from the bytes s: what `listing` writes, in less room.
-fn write_table(t: Table, s: &[u8], out: &mut [u8])
+fn write_table<W: Write>(to: &mut W, t: Table, s: &[u8], out: &mut [u8]) -> io::Result<()>
     requires { (Accepted (shown t s.now)) × (Stands t s.now) × (65536 ≤ length out.old) }
 {
     let mut low = [0u64; 128];
     let mut high = [0u64; 128];
     race_rows(t, s, &mut low, &mut high);
-    if !write_section(out, b"races", true, t, s, &low, &high) {
-        return;
-    }
+    write_section(to, out, b"races", true, t, s, &low, &high)?;
     let mut words = [0u32; 128];
     illegal_rows(t, s, &mut words);
     let mut locks = [0u64; 128];
     widen(&words, &mut locks);
     let none = [0u64; 128];
-    write_section(out, b"illegal", false, t, s, &locks, &none);
+    write_section(to, out, b"illegal", false, t, s, &locks, &none)
 }
 
 // A refused table has a short listing, so none comes here.
-fn write_long(s: &[u8], out: &mut [u8])
+fn write_long<W: Write>(to: &mut W, s: &[u8], out: &mut [u8]) -> io::Result<()>
     requires { 65536 ≤ length out.old }
 {
     let a = Table::read(s);
     let Answer::Read(t) = a else {
-        return;
+        return Ok(());
     };
-    write_table(t, s, out);
+    write_table(to, t, s, out)
 }
 
 // Few listings need more than 64 kilobytes. A longer one is written in pieces, since a program that made room for it would spend its time on the
 // pages of that room, on every table.
-fn main() {
+fn main(rt: HostRuntime) -> io::Result<()> {
     let mut input = [0u8; 1254];
-    let n = io::read_full(0, &mut input);
+    let n = fill(&mut rt.stdin(), &mut input)?;
+    let mut to = rt.stdout();
     let mut out = [0u8; 65536];
     let a = listing::listing(&input[..n], &mut out);
     let Written::Bytes(k) = a else {
-        write_long(&input[..n], &mut out);
-        return;
+        return write_long(&mut to, &input[..n], &mut out);
     };
-    io::write_all(1, &out[..k]);
+    to.write_all(&out[..k])
 }
