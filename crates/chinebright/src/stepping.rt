@@ -11,6 +11,7 @@ use machine::{State, Step, StepAnswer};
 use table::{Answer, Fault, Table};
 
 // The step that a kind and a number name. No task has the number 128, so a kind that is none of the four names no task.
+#[tactic(auto, unfolding(crate::specs::Steps::step_named, machine::specs::Answers::step_of))]
 fn step_named(kind: u8, n: usize) -> Step
     ensures { step_of result ≡ step_named kind n }
 {

@@ -19,6 +19,7 @@ pub fn in_set(k: usize, set: u32) -> bool
 }
 
 // Lock k is a mask that covers task x.
+#[tactic(auto, unfolding(rules::specs::Locks::covers))]
 fn mask_covers(t: Table, s: &[u8], k: usize, x: usize) -> bool
     requires { (k < 256) × (x < 256) }
     ensures { result ≡ covers (shown t s.now) k x }

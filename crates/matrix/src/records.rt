@@ -51,6 +51,7 @@ pub(crate) fn mark(
 }
 
 // The set b, and lock k where it is blocking.
+#[tactic(auto, unfolding(crate::specs::Words::add_lock))]
 fn add_lock(t: Table, s: &[u8], k: usize, b: u32) -> u32
     requires { (k < 32) × (k < t.locks) × (Stands t s.now) }
     ensures { result ≡ add_lock (eqb ((shown t s.now).lock_kind k) blocking) k b }

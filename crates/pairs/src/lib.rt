@@ -10,6 +10,7 @@ use table::Table;
 use tree::{is_ancestor, may_preempt};
 
 // The pair of accesses (i, j) is a race.
+#[tactic(auto, unfolding(rules::specs::Races::race))]
 pub fn is_race(t: Table, s: &[u8], i: usize, j: usize) -> bool
     requires { (i < 256) × (j < 256) × (t.locks ≤ 32) }
     ensures { result ≡ race (shown t s.now) i j }
@@ -34,6 +35,7 @@ pub fn is_race(t: Table, s: &[u8], i: usize, j: usize) -> bool
 }
 
 // Access i and lock k are illegal.
+#[tactic(auto, unfolding(rules::specs::Races::illegal))]
 pub fn is_illegal(t: Table, s: &[u8], i: usize, k: usize) -> bool
     requires { (i < 256) × (k < 32) }
     ensures { result ≡ illegal (shown t s.now) i k }

@@ -1,5 +1,6 @@
 pub mod SetBits
 pub mod Shown
+pub mod FormLaws
 pub mod SectionLaws
 pub mod Chain
 pub mod Told

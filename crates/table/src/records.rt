@@ -54,6 +54,7 @@ impl Table {
         false
     }
 
+    #[tactic(auto, unfolding(crate::specs::Answers::shown, rules::specs::Reading::table_at, rules::specs::Table::is_child))]
     pub fn is_child(self, s: &[u8], p: usize, c: usize) -> bool
         ensures { result ≡ is_child (shown self s.now).tree p c }
     {

@@ -42,6 +42,7 @@ impl Table {
         }
     }
 
+    #[tactic(auto, using(crate::proofs::FormLaws::form_short, crate::proofs::FormLaws::form_wrong, crate::proofs::FormLaws::form_right), unfolding(crate::specs::Answers::told, crate::specs::Answers::number, crate::specs::Answers::place, rules::specs::Reading::concluded))]
     pub(crate) fn form_section(self, s: &[u8]) -> Answer
         ensures { told s.now result ≡ concluded (form_section s.now) (shown self s.now) }
     {

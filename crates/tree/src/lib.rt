@@ -79,6 +79,7 @@ pub fn child_above(t: Table, s: &[u8], p: usize, n: usize) -> usize
 }
 
 // Scheduler p lets its child a preempt its child b.
+#[tactic(auto, unfolding(rules::specs::Preemption::allows))]
 fn scheduler_allows(t: Table, s: &[u8], p: usize, a: usize, b: usize) -> bool
     requires { p < 256 }
     ensures { result ≡ allows (shown t s.now).tree p a b }
