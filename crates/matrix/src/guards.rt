@@ -46,6 +46,7 @@ pub(crate) fn holders(t: Table, s: &[u8], base: usize, n: usize, b: u32, g: &mut
 }
 
 // What a holder of lock k is safe from: below the covered node of a mask, or else the holders.
+#[tactic(auto, using(table::proofs::Bounds::covered_low))]
 fn guard(t: Table, s: &[u8], k: usize, sub: &[u64; 128], held: u64) -> u64
     requires { (Accepted (shown t s.now)) × (k < t.locks) × (Stands t s.now) }
     ensures { result ≡ cond (eqb ((shown t s.now).lock_kind k) mask) (get_or sub.now ((shown t s.now).covered k) 0) held }

@@ -2,6 +2,8 @@
 use mathlib.Core.Path.{◌≡◌, sym, ◌∙◌}
 use native.Mathlib.Omega.{arith}
 use Rattle.rules.proofs.Accepted.{accepted}
+use mathlib.Core.Bool.{true}
+use Rattle.rules.specs.Priorities.{has_thresholds}
 use Rattle.table.specs.Answers.{shown}
 use Rattle.table.proofs.Shown.{nodes_shown}
 use Rattle.priorities.proofs.WholeCall.{call_none, call_short, call_done, root_ready}
@@ -14,9 +16,9 @@ returns-then-not-has c =
 
 pub returns-then-not-fits : goal.returns-then-not-fits
 returns-then-not-fits c =
-    let h = c.has_thresholds-has in
     let n = nodes_shown c.args.t c.args.s.now in
-    call_short _ _ _ c.requires _ (omega arith) (sym h.ensures ∙ c.if-not-has.false) c.if-not-fits.true
+    let has : has_thresholds (shown c.args.t c.args.s.now).tree ≡ true = cc in
+    call_short _ _ _ c.requires _ (omega arith) has c.if-not-fits.true
 
 pub blank-requires : goal.blank-requires
 blank-requires c =
