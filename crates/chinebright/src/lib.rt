@@ -1,7 +1,7 @@
-// The C interface: each call answers the refusal's number (0 where there is none) times 2^32, plus the value or the refusal's place.
+// The calls of the C interface, which `chinebright_c` exports: each answers the refusal's number (0 where there is none) times 2^32, plus the value or the refusal's place.
 #![tactic(auto)]
 
-mod stepping;
+pub mod stepping;
 
 ghost use Rattle.std.specs.Prelude.{◌≡◌, ◌+◌, ◌*◌, ◌<◌};
 ghost use Rattle.rules.specs.Calls.{read_call, preempts_call, races_call, illegal_call, thresholds_call};
@@ -22,8 +22,7 @@ pub(crate) fn refused(f: Fault) -> u64
     f.number() as u64 * 4294967296 + f.place() as u64
 }
 
-#[unsafe(no_mangle)]
-pub extern "C" fn chinebright_read(table: &[u8]) -> u64
+pub fn chinebright_read(table: &[u8]) -> u64
     ensures { result ≡ coded (read_call table.now) }
 {
     let a = Table::read(table);
@@ -33,8 +32,7 @@ pub extern "C" fn chinebright_read(table: &[u8]) -> u64
     }
 }
 
-#[unsafe(no_mangle)]
-pub extern "C" fn chinebright_preempts(table: &[u8], t: usize, u: usize) -> u64
+pub fn chinebright_preempts(table: &[u8], t: usize, u: usize) -> u64
     ensures { result ≡ coded (preempts_call table.now t u) }
 {
     let a = tree::preempts(table, t, u);
@@ -45,8 +43,7 @@ pub extern "C" fn chinebright_preempts(table: &[u8], t: usize, u: usize) -> u64
     }
 }
 
-#[unsafe(no_mangle)]
-pub extern "C" fn chinebright_races(table: &[u8], out: &mut [u8]) -> u64
+pub fn chinebright_races(table: &[u8], out: &mut [u8]) -> u64
     ensures { leaves result out.new ≡ coded_of (races_call table.now out.old) }
 {
     let a = races::races(table, out);
@@ -56,8 +53,7 @@ pub extern "C" fn chinebright_races(table: &[u8], out: &mut [u8]) -> u64
     }
 }
 
-#[unsafe(no_mangle)]
-pub extern "C" fn chinebright_illegal(table: &[u8], out: &mut [u8]) -> u64
+pub fn chinebright_illegal(table: &[u8], out: &mut [u8]) -> u64
     ensures { leaves result out.new ≡ coded_of (illegal_call table.now out.old) }
 {
     let a = races::illegal(table, out);
@@ -67,8 +63,7 @@ pub extern "C" fn chinebright_illegal(table: &[u8], out: &mut [u8]) -> u64
     }
 }
 
-#[unsafe(no_mangle)]
-pub extern "C" fn chinebright_thresholds(table: &[u8], out: &mut [u8]) -> u64
+pub fn chinebright_thresholds(table: &[u8], out: &mut [u8]) -> u64
     ensures { leaves result out.new ≡ coded_of (thresholds_call table.now out.old) }
 {
     let a = priorities::thresholds(table, out);
@@ -78,8 +73,7 @@ pub extern "C" fn chinebright_thresholds(table: &[u8], out: &mut [u8]) -> u64
     }
 }
 
-#[unsafe(no_mangle)]
-pub extern "C" fn chinebright_listing(table: &[u8], out: &mut [u8]) -> u64
+pub fn chinebright_listing(table: &[u8], out: &mut [u8]) -> u64
     ensures { leaves result out.new ≡ coded_of (listing_call table.now out.old) }
 {
     let a = listing::listing(table, out);

@@ -54,8 +54,7 @@ fn store(p: &[u8; 128], state: &mut [u8])
     }
 }
 
-#[unsafe(no_mangle)]
-pub extern "C" fn chinebright_fresh(state: &mut [u8]) -> u64
+pub fn chinebright_fresh(state: &mut [u8]) -> u64
     ensures { leaves result state.new ≡ coded_of (fresh_call state.old) }
 {
     if state.len() < 128 {
@@ -79,8 +78,7 @@ fn malformed(table: &[u8], state: &[u8], kind: u8, n: usize) -> u64
     }
 }
 
-#[unsafe(no_mangle)]
-pub extern "C" fn chinebright_step(table: &[u8], state: &mut [u8], kind: u8, n: usize) -> u64
+pub fn chinebright_step(table: &[u8], state: &mut [u8], kind: u8, n: usize) -> u64
     ensures { leaves result state.new ≡ coded_of (step_call table.now state.old (step_named kind n)) }
 {
     if state.len() != 128 {

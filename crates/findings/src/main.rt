@@ -28,7 +28,8 @@ fn fewer(a: usize, b: usize) -> usize
 
 // Reads until the buffer is full or the input ends, since one read may give less than there is, and answers how many bytes came.
 fn fill<R: Read>(from: &mut R, input: &mut [u8]) -> io::Result<usize>
-    ensures { IfOk result (λ n. n ≤ length input.new) }
+    ensures filled { IfOk result (λ n. n ≤ length input.new) }
+    ensures kept { length input.new ≡ length input.old }
 {
     let mut n = 0;
     while n < input.len() {
