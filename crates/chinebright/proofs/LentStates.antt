@@ -2,16 +2,20 @@
 -- refused answer alone says what a step leaves.
 -- Assumes nothing.
 use Prim.Native.Nat.{ℕ, ◌≤◌, ◌<◌}
-use mathlib.Core.Path.{◌≡◌, ap}
-use mathlib.Core.List.{List, ◌++◌, append-nil}
+use mathlib.Core.Path.{◌≡◌, refl, ap}
+use mathlib.Core.List.{List, ◌++◌}
 use native.Mathlib.Omega.{arith}
-use lib.ListN.{length, drop, drop_of_length-le}
+use lib.ListN.{length, drop}
 use borrow.Author.Tests.{ne_eqb, le-leb, lt-leb}
 use Rattle.rules.specs.Table.{Table}
 use Rattle.rules.specs.Reading.{Reading, Is, Refused, read}
 use Rattle.rules.specs.Machine.{places, fresh, well_formed, granting, step, Step, Stepped, Granted, Denied}
 use Rattle.rules.specs.Calls.{Answer, Value, Refusal, reading, refusing, writing, stepped, fresh_call, step_call}
 use Rattle.rules.proofs.AnswersFit.{Fits, left_fits}
+
+pub fresh_long : length fresh ≡ places
+unfolding fresh
+fresh_long = refl
 
 -- A fresh state, where there is no room and where there is.
 module _ (out : List ℕ) where
@@ -53,7 +57,3 @@ module _ (b s : List ℕ) (c : Step) where
       side : (r : Stepped) → Fits 1253 (stepped s r).answer
       side (Granted s') = (unfold stepped in omega arith)
       side (Denied m) = (unfold stepped refusing in omega arith)
-
--- A state of 128 places written over another leaves nothing of it.
-pub whole_state : (p s : List ℕ) → length s ≡ places → p ++ drop places s ≡ p
-whole_state p s e = rw (drop_of_length-le s {i = places} (omega arith)) (append-nil p)

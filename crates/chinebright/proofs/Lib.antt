@@ -1,4 +1,3 @@
 pub mod Unique
 pub mod Codes
-pub mod Copies
 pub mod LentStates

@@ -3,82 +3,70 @@
 
 pub mod stepping;
 
-ghost use Rattle.std.specs.Prelude.{◌≡◌, ◌+◌, ◌*◌, ◌<◌};
+ghost use Rattle.std.specs.Prelude.{◌≡◌, ◌+◌, ◌*◌, ◌<◌, IfErr};
 ghost use Rattle.rules.specs.Calls.{read_call, preempts_call, races_call, illegal_call, thresholds_call};
 ghost use Rattle.rules.specs.Listing.{listing_call};
-ghost use Rattle.table.specs.Answers.{number, place};
-ghost use Rattle.chinebright.specs.Coded.{coded, coded_of, leaves};
+ghost use Rattle.table.specs.Answers.{number};
+ghost use Rattle.chinebright.specs.Coded.{coded, coded_of, leaves, said};
 
-use listing::Written;
-use priorities::Numbered;
-use races::Listed;
-use table::{Answer, Fault, Table};
-use tree::Preemption;
+use table::{Fault, Table};
 
-pub(crate) fn refused(f: Fault) -> u64
-    requires { place f < 4294967296 }
-    ensures { result ≡ number f * 4294967296 + place f }
+pub(crate) fn refused(fault: Fault) -> u64
+    requires { fault.place < 4294967296 }
+    ensures { result ≡ number fault * 4294967296 + fault.place }
 {
-    f.number() as u64 * 4294967296 + f.place() as u64
+    fault.number() as u64 * 4294967296 + fault.place as u64
+}
+
+// An answer as one number.
+pub(crate) fn coded(answer: Result<usize, Fault>) -> u64
+    requires { IfErr answer (λ f. f.place < 4294967296) }
+    ensures { result ≡ coded (said answer) }
+{
+    match answer {
+        Ok(value) => value as u64,
+        Err(fault) => refused(fault),
+    }
 }
 
 pub fn chinebright_read(table: &[u8]) -> u64
     ensures { result ≡ coded (read_call table.now) }
 {
-    let a = Table::read(table);
-    match a {
-        Answer::Read(_) => 0,
-        Answer::Refused(f) => refused(f),
+    match Table::read(table) {
+        Ok(_) => 0,
+        Err(fault) => refused(fault),
     }
 }
 
 pub fn chinebright_preempts(table: &[u8], t: usize, u: usize) -> u64
     ensures { result ≡ coded (preempts_call table.now t u) }
 {
-    let a = tree::preempts(table, t, u);
-    match a {
-        Preemption::Yes => 1,
-        Preemption::No => 0,
-        Preemption::Refused(f) => refused(f),
+    match tree::preempts(table, t, u) {
+        Ok(may) => u64::from(may),
+        Err(fault) => refused(fault),
     }
 }
 
 pub fn chinebright_races(table: &[u8], out: &mut [u8]) -> u64
     ensures { leaves result out.new ≡ coded_of (races_call table.now out.old) }
 {
-    let a = races::races(table, out);
-    match a {
-        Listed::Pairs(n) => n as u64,
-        Listed::Refused(f) => refused(f),
-    }
+    coded(races::races(table, out))
 }
 
 pub fn chinebright_illegal(table: &[u8], out: &mut [u8]) -> u64
     ensures { leaves result out.new ≡ coded_of (illegal_call table.now out.old) }
 {
-    let a = races::illegal(table, out);
-    match a {
-        Listed::Pairs(n) => n as u64,
-        Listed::Refused(f) => refused(f),
-    }
+    coded(races::illegal(table, out))
 }
 
 pub fn chinebright_thresholds(table: &[u8], out: &mut [u8]) -> u64
     ensures { leaves result out.new ≡ coded_of (thresholds_call table.now out.old) }
 {
-    let a = priorities::thresholds(table, out);
-    match a {
-        Numbered::Bytes(n) => n as u64,
-        Numbered::Refused(f) => refused(f),
-    }
+    coded(priorities::thresholds(table, out))
 }
 
 pub fn chinebright_listing(table: &[u8], out: &mut [u8]) -> u64
     ensures { leaves result out.new ≡ coded_of (listing_call table.now out.old) }
 {
-    let a = listing::listing(table, out);
-    match a {
-        Written::Bytes(n) => n as u64,
-        Written::Refused(f) => refused(f),
-    }
+    coded(listing::listing(table, out))
 }

@@ -1,12 +1,10 @@
 // The listing call at its edges. Each case is what the call answers, and then the whole buffer after it, whose bytes were dots.
-use listing::Written;
 use std::io::{self, Write};
 
 fn shown(to: &mut impl Write, s: &[u8], out: &mut [u8]) -> io::Result<()> {
-    let a = listing::listing(s, out);
-    match a {
-        Written::Bytes(k) => writeln!(to, "bytes {k}")?,
-        Written::Refused(f) => writeln!(to, "refused {} at {}", f.number(), f.place())?,
+    match listing::listing(s, out) {
+        Ok(k) => writeln!(to, "bytes {k}")?,
+        Err(fault) => writeln!(to, "{fault}")?,
     }
     to.write_all(out)?;
     to.write_all(b"\n")

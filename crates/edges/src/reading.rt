@@ -1,23 +1,17 @@
 // Reading at its edges: both sides of every limit, the longest table and a byte more, and table W damaged.
 use std::io::{self, Write};
-use table::bytes::wide;
-use table::{Answer, Table};
+use table::Table;
 
 const W: [u8; 45] = [
     1, 7, 0, 1, 0, 1, 0, 4, 1, 0, 1, 0, 2, 0, 2, 0, 2, 0, 1, 1, 2, 0, 0, 1, 1, 1, 3, 3, 0, 0, 0, 0,
     0, 5, 0, 0, 0, 0, 1, 6, 0, 0, 0, 0, 2,
 ];
 
-// What reading the first n bytes of b answers.
-fn show(to: &mut impl Write, name: &[u8], b: &[u8], n: usize) -> io::Result<()> {
-    to.write_all(name)?;
-    if b.len() < n {
-        return Ok(());
-    }
-    let a = Table::read(&b[..n]);
-    match a {
-        Answer::Read(_) => writeln!(to, ": read"),
-        Answer::Refused(f) => writeln!(to, ": refused {} at {}", f.number(), f.place()),
+// What reading the bytes answers.
+fn show(to: &mut impl Write, name: &str, bytes: &[u8]) -> io::Result<()> {
+    match Table::read(bytes) {
+        Ok(_) => writeln!(to, "{name}: read"),
+        Err(fault) => writeln!(to, "{name}: {fault}"),
     }
 }
 
@@ -35,35 +29,35 @@ fn start(b: &mut [u8], n: u8, k: u8) {
 }
 
 // A preemptive root with n - 1 tasks, and nothing else.
-fn nodes(to: &mut impl Write, name: &[u8], n: u8) -> io::Result<()> {
+fn nodes(to: &mut impl Write, name: &str, n: u8) -> io::Result<()> {
     let mut b = [0u8; 600];
     start(&mut b, n, 1);
-    show(to, name, &b, wide(n) * 2 + 5)
+    show(to, name, &b[..usize::from(n) * 2 + 5])
 }
 
 // A root with k blocking locks, and nothing else.
-fn locks(to: &mut impl Write, name: &[u8], k: u8) -> io::Result<()> {
+fn locks(to: &mut impl Write, name: &str, k: u8) -> io::Result<()> {
     let mut b = [0u8; 900];
     start(&mut b, 1, 1);
     put(&mut b, 4, k);
-    show(to, name, &b, wide(k) * 3 + 7)
+    show(to, name, &b[..usize::from(k) * 3 + 7])
 }
 
 // A root with r resources, and nothing else.
-fn resources(to: &mut impl Write, name: &[u8], r: u8) -> io::Result<()> {
+fn resources(to: &mut impl Write, name: &str, r: u8) -> io::Result<()> {
     let mut b = [0u8; 600];
     start(&mut b, 1, 1);
     put(&mut b, 5, r);
-    show(to, name, &b, wide(r) * 2 + 7)
+    show(to, name, &b[..usize::from(r) * 2 + 7])
 }
 
 // A root that is a task, a resource, and a accesses.
-fn accesses(to: &mut impl Write, name: &[u8], a: u8) -> io::Result<()> {
+fn accesses(to: &mut impl Write, name: &str, a: u8) -> io::Result<()> {
     let mut b = [0u8; 1600];
     start(&mut b, 1, 0);
     put(&mut b, 5, 1);
     put(&mut b, 8, a);
-    show(to, name, &b, wide(a) * 6 + 9)
+    show(to, name, &b[..usize::from(a) * 6 + 9])
 }
 
 // Task 1 for each access of the longest table.
@@ -81,33 +75,33 @@ fn longest(to: &mut impl Write) -> io::Result<()> {
     put(&mut b, 355, 64);
     put(&mut b, 484, 128);
     tasks(&mut b);
-    show(to, b"1253 bytes", &b, 1253)?;
-    show(to, b"1254 bytes", &b, 1254)
+    show(to, "1253 bytes", &b[..b.len() - 1])?;
+    show(to, "1254 bytes", &b)
 }
 
 // W with byte p set to v.
-fn damaged(to: &mut impl Write, name: &[u8], p: usize, v: u8) -> io::Result<()> {
+fn damaged(to: &mut impl Write, name: &str, p: usize, v: u8) -> io::Result<()> {
     let mut b = W;
     put(&mut b, p, v);
-    show(to, name, &b, 45)
+    show(to, name, &b)
 }
 
 pub fn run(to: &mut impl Write) -> io::Result<()> {
-    show(to, b"no bytes", b"", 0)?;
-    nodes(to, b"0 nodes", 0)?;
-    nodes(to, b"128 nodes", 128)?;
-    nodes(to, b"129 nodes", 129)?;
-    locks(to, b"32 locks", 32)?;
-    locks(to, b"33 locks", 33)?;
-    resources(to, b"64 resources", 64)?;
-    resources(to, b"65 resources", 65)?;
-    accesses(to, b"128 accesses", 128)?;
-    accesses(to, b"129 accesses", 129)?;
+    show(to, "no bytes", b"")?;
+    nodes(to, "0 nodes", 0)?;
+    nodes(to, "128 nodes", 128)?;
+    nodes(to, "129 nodes", 129)?;
+    locks(to, "32 locks", 32)?;
+    locks(to, "33 locks", 33)?;
+    resources(to, "64 resources", 64)?;
+    resources(to, "65 resources", 65)?;
+    accesses(to, "128 accesses", 128)?;
+    accesses(to, "129 accesses", 129)?;
     longest(to)?;
-    show(to, b"W", &W, 45)?;
-    show(to, b"W without its last byte", &W, 44)?;
-    damaged(to, b"W with byte 4 set to 1", 4, 1)?;
-    damaged(to, b"W with byte 19 set to 3", 19, 3)?;
-    damaged(to, b"W with byte 27 set to 2", 27, 2)?;
-    damaged(to, b"W with byte 38 set to 5", 38, 5)
+    show(to, "W", &W)?;
+    show(to, "W without its last byte", &W[..44])?;
+    damaged(to, "W with byte 4 set to 1", 4, 1)?;
+    damaged(to, "W with byte 19 set to 3", 19, 3)?;
+    damaged(to, "W with byte 27 set to 2", 27, 2)?;
+    damaged(to, "W with byte 38 set to 5", 38, 5)
 }

@@ -1,6 +1,6 @@
 -- The lines of a word's set bits: lowest bit first, as many bytes as their lines have, and those of a row of two words.
 -- Assumes nothing.
-use Prim.Native.Nat.{ℕ, zero, suc, ◌+◌, ◌*◌, ◌-◌, ◌/◌, ◌%◌, ◌<◌, ◌≤◌}
+use Prim.Native.Nat.{ℕ, zero, suc, ◌+◌, ◌*◌, ◌/◌, ◌%◌, ◌<◌, ◌≤◌}
 use mathlib.Core.Path.{◌≡◌, refl, sym, ◌∙◌, ap}
 use mathlib.Core.Bool.{Bool, true, false, cond}
 use mathlib.Core.List.{List, [], ◌∷◌, ◌++◌, append_assoc}
@@ -8,22 +8,46 @@ use native.Mathlib.Omega.{arith}
 use native.Mathlib.Nat.{suc-mul}
 use lib.Dec.{eqb}
 use lib.ListN.{length, length-append}
-use lib.Bits.{bit_and}
 use Rattle.rules.specs.Bounded.{Pair, bytes_of}
 use Rattle.rules.specs.Locks.{in_set}
 use Rattle.rules.specs.Listing.{lines}
+use Rattle.rows.specs.Bits.{bits_from, set_bits}
 use Rattle.rows.specs.Writing.{bit_pairs, row_of}
 use Rattle.rows.proofs.Bits.{has_low, has_half}
-use Rattle.rows.proofs.Pairs.{First, row_of_lem}
+use Rattle.rows.proofs.Pairs.{row_of_lem}
 use Rattle.lines.specs.Lines.{bit_lines}
 
 abbrev pub pair : ℕ → ℕ → Pair
 pair i j = record { one = i; two = j }
 
-pub no_bits : (f : ℕ → List ℕ) (d j : ℕ) → bit_lines f d j 0 ≡ []
-unfolding bit_lines
-no_bits f zero j = refl
-no_bits f (suc d) j = no_bits f d (j + 1)
+-- The lines of the numbers j + z.
+unfoldable lines_with : (ℕ → List ℕ) → ℕ → List ℕ → List ℕ
+lines_with f j [] = []
+lines_with f j (z ∷ zs) = f (j + z) ++ lines_with f j zs
+
+of_numbers : (f : ℕ → List ℕ) (d j k x : ℕ) → bit_lines f d (j + k) x ≡ lines_with f j (bits_from d k x)
+unfolding bit_lines bits_from lines_with
+of_numbers f zero j k x = refl
+of_numbers f (suc d) j k x = let e : j + k + 1 ≡ j + (k + 1) = omega arith in rw e (side (eqb (x % 2) 1) (of_numbers f d j (k + 1) (x / 2)))
+  where
+    side : (b : Bool) → bit_lines f d (j + (k + 1)) (x / 2) ≡ lines_with f j (bits_from d (k + 1) (x / 2))
+        → cond b (f (j + k) ++ bit_lines f d (j + (k + 1)) (x / 2)) (bit_lines f d (j + (k + 1)) (x / 2))
+        ≡ lines_with f j (cond b (k ∷ bits_from d (k + 1) (x / 2)) (bits_from d (k + 1) (x / 2)))
+    side true r = ap (λ (l : List ℕ). f (j + k) ++ l) r
+    side false r = r
+
+of_word : (f : ℕ → List ℕ) (j x : ℕ) → bit_lines f 64 j x ≡ lines_with f j (set_bits x)
+unfolding set_bits
+of_word f j x = let z : j + 0 ≡ j = omega arith in rw z at (of_numbers f 64 j 0 x)
+
+-- The line of the first number comes first, and where no number is left there are no lines.
+pub first_line : (f : ℕ → List ℕ) (j x z y : ℕ) → set_bits x ≡ z ∷ set_bits y → bit_lines f 64 j x ≡ f (j + z) ++ bit_lines f 64 j y
+unfolding lines_with
+first_line f j x z y e = of_word f j x ∙ ap (lines_with f j) e ∙ ap (λ (l : List ℕ). f (j + z) ++ l) (sym (of_word f j y))
+
+pub last_line : (f : ℕ → List ℕ) (j x : ℕ) → set_bits x ≡ [] → bit_lines f 64 j x ≡ []
+unfolding lines_with
+last_line f j x e = of_word f j x ∙ ap (lines_with f j) e
 
 -- What holds of the bits of x holds of its lowest, and of those of its half.
 module _ (P : ℕ → Type 0) (d j x : ℕ) (h : (k : ℕ) → k < suc d → in_set k x ≡ true → P (j + k)) where
@@ -104,17 +128,6 @@ as_lines g i (suc d) j x = side (eqb (x % 2) 1) (as_lines g i d (j + 1) (x / 2))
         ≡ lines g (pairs_of (cond b (i ∷ j ∷ bit_pairs d i (j + 1) (x / 2)) (bit_pairs d i (j + 1) (x / 2))))
     side true r = ap (λ (l : List ℕ). g (pair i j) ++ l) r
     side false r = r
-
-first_pair : (g : Pair → List ℕ) (d i j x z : ℕ) → First d i j x z
-    → lines g (pairs_of (bit_pairs d i j x)) ≡ g (pair i (j + z)) ++ lines g (pairs_of (bit_pairs d i j (bit_and x (x - 1))))
-unfolding pairs_of lines
-first_pair g d i j x z f = rw f.eq
-
--- The line of the lowest bit comes first.
-pub first_line : (f : ℕ → List ℕ) (d j x z : ℕ) → First d 0 j x z → bit_lines f d j x ≡ f (j + z) ++ bit_lines f d j (bit_and x (x - 1))
-first_line f d j x z w =
-    as_lines (λ p. f p.two) 0 d j x ∙ first_pair (λ p. f p.two) d 0 j x z w
-    ∙ ap (λ (l : List ℕ). f (j + z) ++ l) (sym (as_lines (λ p. f p.two) 0 d j (bit_and x (x - 1))))
 
 -- The lines of a row of two words.
 pub row_lines : (g : Pair → List ℕ) (low high i : ℕ)

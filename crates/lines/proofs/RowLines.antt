@@ -2,21 +2,23 @@
 -- numbers.
 -- Assumes nothing.
 use Prim.Native.Nat.{ℕ, zero, suc, ◌+◌, ◌*◌, ◌-◌, ◌<◌, ◌≤◌}
-use mathlib.Core.Path.{◌≡◌, refl, ◌∙◌}
-use mathlib.Core.Bool.{Bool}
+use mathlib.Core.Path.{◌≡◌, refl, ◌∙◌, ap}
 use mathlib.Core.List.{List, [], ◌∷◌, ◌++◌}
 use native.Mathlib.Numerals.{add-one}
 use native.Mathlib.Omega.{arith}
-use lib.ListN.{length, get_or, length-append, length-replicate}
+use lib.ListN.{length, take, get_or, length-append, length-replicate}
 use Rattle.rules.specs.Bounded.{Pair}
 use Rattle.rules.specs.Table.{Table}
 use Rattle.rules.specs.Listing.{lines}
+use Rattle.rows.specs.Bits.{set_bits}
 use Rattle.rows.specs.Writing.{Wrote, row_of}
+use Rattle.rows.proofs.BitList.{below_64}
 use Rattle.rows.proofs.Written.{none, next, same_room}
 use Rattle.store.specs.Parts.{part}
+use Rattle.lines.specs.declared.Section.{Section}
 use Rattle.lines.specs.Lines.{pair_line, head_of, seconds, tail_at, line_at, blank, bit_lines, Short, Lengths, Tails, Within, rows_from}
 use Rattle.store.proofs.Parts.{length_part, part_stored}
-use Rattle.lines.proofs.BitLines.{pair, same_lines, same_lengths, few_bytes, lines_append, row_lines}
+use Rattle.lines.proofs.BitLines.{pair, same_lines, same_lengths, few_bytes, first_line, lines_append, row_lines}
 use Rattle.lines.proofs.LineEnds.{line_ends}
 
 module _ (g : Pair → List ℕ) (low high : List ℕ) (from : ℕ) where
@@ -70,41 +72,61 @@ blank_length h lens j = length-replicate (h + get_or lens j 0) 0
 pub blanks_few : (h : ℕ) (lens : List ℕ) → h ≤ 24 → Short lens → (d j x : ℕ) → length (bit_lines (blank h lens) d j x) ≤ d * 32
 blanks_few h lens l s = few_bytes (blank h lens) 32 (λ j. omega (arith, blank_length h lens j, s.few j))
 
-pub blank_first : (h : ℕ) (lens : List ℕ) (j : ℕ) (rest : List ℕ) → length (blank h lens j ++ rest) ≡ h + get_or lens j 0 + length rest
+blank_first : (h : ℕ) (lens : List ℕ) (j : ℕ) (rest : List ℕ) → length (blank h lens j ++ rest) ≡ h + get_or lens j 0 + length rest
 blank_first h lens j rest = rw (length-append, blank_length) (omega arith)
 
-pub line_length : (head : List ℕ) (h : ℕ) (lens tails : List ℕ) (j : ℕ) → h ≤ length head → 8 * j + 8 ≤ length tails → Short lens
-    → length (line_at head h lens tails j) ≡ h + get_or lens j 0
+line_length : (head lens tails : List ℕ) (j : ℕ) → 8 * j + 8 ≤ length tails → Short lens
+    → length (line_at head lens tails j) ≡ length head + get_or lens j 0
 unfolding line_at tail_at
-line_length head h lens tails j b c s =
-    rw (length-append, length_part 0 h head (omega arith), length_part (8 * j + 8 - get_or lens j 0) (get_or lens j 0) tails (omega (arith, s.few j))) (omega arith)
+line_length head lens tails j c s =
+    rw (length-append, length_part (8 * j + 8 - get_or lens j 0) (get_or lens j 0) tails (omega (arith, s.few j))) (omega arith)
+
+-- The line of the first number z of a word x: the head, and the tail of the number.
+module _ (from x z y : ℕ) (e : set_bits x ≡ z ∷ set_bits y) (lens : List ℕ) where
+  pub first_length : (h : ℕ) → length (bit_lines (blank h lens) 64 from x) ≡ h + get_or lens (from + z) 0 + length (bit_lines (blank h lens) 64 from y)
+  first_length h = ap length (first_line (blank h lens) from x z y e) ∙ blank_first h lens (from + z) _
+
+  pub first_room : (head tails : List ℕ) (w r : ℕ) → from + 64 ≤ 128 → length tails ≡ 1024 → Short lens → w + length (bit_lines (line_at head lens tails) 64 from x) ≤ r
+      → w + length head + get_or lens (from + z) 0 ≤ r
+  first_room head tails w r h o s room =
+      let n = line_length head lens tails (from + z) (omega (arith, below_64 _ _ _ e)) s in
+      omega (arith, n, rw length-append at (ap length (first_line (line_at head lens tails) from x z y e)))
+
+-- What was written from the start on is the first r bytes.
+head_made : {l vs m : List ℕ} {r : ℕ} (n : ℕ) → n ≡ r → Wrote l 0 vs m r → length vs ≤ length l → take n m ≡ vs
+unfolding part
+head_made {l} {vs} n e w h =
+    let z : 0 + length vs ≡ length vs = omega arith in
+    rw (e, w.bytes, w.place, z) (part_stored vs l 0 (omega arith))
 
 -- The row of access i.
-module _ (racing : Bool) (t : Table) (i low high : ℕ) (lens : List ℕ) (within : Within (seconds racing t) low high) where
-  pub row_length : {h a b : ℕ} → Lengths racing t (seconds racing t) lens → h ≡ length (head_of racing t i)
-      → a ≡ length (bit_lines (blank h lens) 64 0 low) → b ≡ length (bit_lines (blank h lens) 64 64 high) → a + b ≡ length (lines (pair_line racing t) (row_of low high i))
+module _ (which : Section) (t : Table) (i low high : ℕ) (lens : List ℕ) (within : Within (seconds which t) low high) where
+  pub row_length : {h a b : ℕ} → Lengths which t (seconds which t) lens → h ≡ length (head_of which t i)
+      → a ≡ length (bit_lines (blank h lens) 64 0 low) → b ≡ length (bit_lines (blank h lens) 64 64 high) → a + b ≡ length (lines (pair_line which t) (row_of low high i))
   row_length {h} {a} {b} f e p q =
-      let u = same_lengths (blank h lens) (λ k. pair_line racing t (pair i k)) 64 0 low (λ k l c. each (0 + k) (omega (arith, within.lows k l c))) in
-      let v = same_lengths (blank h lens) (λ k. pair_line racing t (pair i k)) 64 64 high (λ k l c. each (64 + k) (within.highs k l c)) in
-      rw (row_lines (pair_line racing t) low high i, length-append) (omega (arith, u, v))
+      let u = same_lengths (blank h lens) (λ k. pair_line which t (pair i k)) 64 0 low (λ k l c. each (0 + k) (omega (arith, within.lows k l c))) in
+      let v = same_lengths (blank h lens) (λ k. pair_line which t (pair i k)) 64 64 high (λ k l c. each (64 + k) (within.highs k l c)) in
+      rw (row_lines (pair_line which t) low high i, length-append) (omega (arith, u, v))
     where
-      each : (j : ℕ) → j < seconds racing t → length (blank h lens j) ≡ length (pair_line racing t (pair i j))
-      each j l = rw (line_ends racing t i j, length-append) (omega (arith, blank_length h lens j, f.each j l, e))
+      each : (j : ℕ) → j < seconds which t → length (blank h lens j) ≡ length (pair_line which t (pair i j))
+      each j l = rw (line_ends which t i j, length-append) (omega (arith, blank_length h lens j, f.each j l, e))
 
-  pub row_few : Lengths racing t (seconds racing t) lens → length (head_of racing t i) ≤ 24 → length (lines (pair_line racing t) (row_of low high i)) ≤ 4096
+  pub row_few : Lengths which t (seconds which t) lens → length (head_of which t i) ≤ 24 → length (lines (pair_line which t) (row_of low high i)) ≤ 4096
   row_few f l =
-      let h = length (head_of racing t i) in
+      let h = length (head_of which t i) in
       omega (arith, row_length f refl refl refl, blanks_few h lens l f.short 64 0 low, blanks_few h lens l f.short 64 64 high)
 
-  pub row_text : (h : ℕ) (head tails : List ℕ) → Tails racing t (seconds racing t) lens tails → part 0 h head ≡ head_of racing t i
-      → lines (pair_line racing t) (row_of low high i) ≡ bit_lines (line_at head h lens tails) 64 0 low ++ bit_lines (line_at head h lens tails) 64 64 high
-  row_text h head tails f e =
-      let u = same_lines (λ k. pair_line racing t (pair i k)) (line_at head h lens tails) 64 0 low (λ k l c. each (0 + k) (omega (arith, within.lows k l c))) in
-      let v = same_lines (λ k. pair_line racing t (pair i k)) (line_at head h lens tails) 64 64 high (λ k l c. each (64 + k) (within.highs k l c)) in
-      row_lines (pair_line racing t) low high i ∙ rw (u, v)
+  pub row_text : (head tails : List ℕ) → Tails which t (seconds which t) lens tails → head ≡ head_of which t i
+      → lines (pair_line which t) (row_of low high i) ≡ bit_lines (line_at head lens tails) 64 0 low ++ bit_lines (line_at head lens tails) 64 64 high
+  row_text head tails f e =
+      let u = same_lines (λ k. pair_line which t (pair i k)) (line_at head lens tails) 64 0 low (λ k l c. each (0 + k) (omega (arith, within.lows k l c))) in
+      let v = same_lines (λ k. pair_line which t (pair i k)) (line_at head lens tails) 64 64 high (λ k l c. each (64 + k) (within.highs k l c)) in
+      row_lines (pair_line which t) low high i ∙ rw (u, v)
     where
-      each : (j : ℕ) → j < seconds racing t → pair_line racing t (pair i j) ≡ line_at head h lens tails j
-      each j l = line_ends racing t i j ∙ (unfold line_at in rw (e, f.each j l))
+      each : (j : ℕ) → j < seconds which t → pair_line which t (pair i j) ≡ line_at head lens tails j
+      each j l = line_ends which t i j ∙ (unfold line_at in rw (e, f.each j l))
 
-pub head_made : {l vs m : List ℕ} {r : ℕ} → Wrote l 0 vs m r → length vs ≤ length l → part 0 r m ≡ vs
-head_made {l} {vs} w h = let z : 0 + length vs ≡ length vs = omega arith in rw (w.bytes, w.place, z) (part_stored vs l 0 (omega arith))
+  -- So where the first n bytes that were written are the head.
+  pub row_whole : {l m : List ℕ} {r : ℕ} (n : ℕ) (tails : List ℕ) → n ≡ r → Wrote l 0 (head_of which t i) m r → r ≤ length l → Tails which t (seconds which t) lens tails
+      → lines (pair_line which t) (row_of low high i) ≡ bit_lines (line_at (take n m) lens tails) 64 0 low ++ bit_lines (line_at (take n m) lens tails) 64 64 high
+  row_whole {m = m} n tails e w h f = row_text (take n m) tails f (head_made n e w (omega (arith, w.place)))

@@ -2,7 +2,6 @@
 -- Assumes nothing.
 use Prim.Native.Nat.{ℕ, ◌+◌, ◌≤◌}
 use mathlib.Core.Path.{◌≡◌}
-use mathlib.Core.Bool.{true, false}
 use mathlib.Core.List.{List, [], ◌∷◌, append-nil}
 use native.Mathlib.Omega.{arith}
 use lib.ListN.{length, length-append}
@@ -12,6 +11,7 @@ use Rattle.rules.specs.Quoted.{codes}
 use Rattle.rules.specs.Listing.{decimal, fields, line, lines, section, text}
 use Rattle.rows.specs.Writing.{Wrote}
 use Rattle.rows.proofs.Written.{next, same_room}
+use Rattle.lines.specs.declared.Section.TheVariants.{Races, Illegals}
 use Rattle.lines.specs.Lines.{pair_line}
 use Rattle.lines.proofs.RowLines.{no_lines}
 
@@ -41,11 +41,11 @@ module _ (word : List ℕ) (g : Pair → List ℕ) (ps : List Pair) {n : ℕ} (e
   lines_left h a = let b = rw (length-append, ← e) at h in omega (arith, b, a.place, same_room a)
 
 module _ (t : Table) (ps qs : List Pair) where
-  pub text_counted : {a b : ℕ} → a ≡ length (section (codes "races") (pair_line true t) ps) → b ≡ length (section (codes "illegal") (pair_line false t) qs) → a + b ≡ length (text t ps qs)
+  pub text_counted : {a b : ℕ} → a ≡ length (section (codes "races") (pair_line Races t) ps) → b ≡ length (section (codes "illegal") (pair_line Illegals t) qs) → a + b ≡ length (text t ps qs)
   unfolding text pair_line
   text_counted p q = rw length-append (omega arith)
 
-  pub text_wrote : {l m o : List ℕ} {w r : ℕ} → Wrote l 0 (section (codes "races") (pair_line true t) ps) m w
-      → Wrote m w (section (codes "illegal") (pair_line false t) qs) o r → Wrote l 0 (text t ps qs) o r
+  pub text_wrote : {l m o : List ℕ} {w r : ℕ} → Wrote l 0 (section (codes "races") (pair_line Races t) ps) m w
+      → Wrote m w (section (codes "illegal") (pair_line Illegals t) qs) o r → Wrote l 0 (text t ps qs) o r
   unfolding text pair_line
   text_wrote p q = next p q

@@ -3,69 +3,70 @@
 
 mod ends;
 mod measure;
-pub mod pieces;
+mod pieces;
 mod storing;
 
 ghost use Rattle.std.specs.Prelude.{◌≡◌, ◌+◌, ◌≤◌, length};
 ghost use Rattle.rules.specs.Listing.{section};
 ghost use Rattle.rules.specs.Accepted.{Accepted};
 ghost use Rattle.table.specs.Answers.{shown};
+ghost use Rattle.table.specs.OneProof.{accepted_prop};
 ghost use Rattle.rows.specs.Writing.{Wrote, rows_of};
 ghost use Rattle.lines.specs.Lines.{pair_line, RowsWithin};
+ghost use Rattle.lines.specs.OneProof.{rows_prop};
 
-use ends::{measure_tails, put_tails};
-use measure::rows_length;
-use races::race_list::count_rows;
-use storing::put_rows;
+use ends::Ends;
+use measure::Measured;
+use rows::Rows;
 use table::Table;
-use table::bytes::wide;
-use text::{digits, put_line};
+use text::{Pen, digits};
 
-// How many bytes the section takes.
-pub fn section_length(
-    word: &[u8],
-    racing: bool,
-    t: Table,
-    s: &[u8],
-    low: &[u64; 128],
-    high: &[u64; 128],
-) -> usize
-    requires { (length word.now ≤ 8) × (Accepted (shown t s.now)) × (RowsWithin racing (shown t s.now) low.now high.now) }
-    ensures { (result ≡ length (section word.now (pair_line racing (shown t s.now)) (rows_of low.now high.now t.accesses))) × (result ≤ 600000) }
-{
-    let count = count_rows(wide(t.accesses), low, high);
-    let first = word.len() + 2 + digits(count);
-    if count == 0 {
-        return first;
-    }
-    let mut lens = [0u8; 128];
-    measure_tails(racing, t, s, &mut lens);
-    first + rows_length(racing, t, s, low, high, &lens)
+// What the pairs of a section are: races, or illegal locks.
+#[derive(Clone, Copy, Debug, PartialEq, Eq)]
+pub enum Section {
+    Races,
+    Illegals,
 }
 
-pub fn put_section(
-    out: &mut [u8],
-    k: usize,
-    word: &[u8],
-    racing: bool,
-    t: Table,
-    s: &[u8],
-    low: &[u64; 128],
-    high: &[u64; 128],
-) -> usize
-    requires { (k ≤ 600000) × (length word.now ≤ 8) × (Accepted (shown t s.now)) × (RowsWithin racing (shown t s.now) low.now high.now) × (k + length (section word.now (pair_line racing (shown t s.now)) (rows_of low.now high.now t.accesses)) ≤ length out.old) }
-    ensures { Wrote out.old k (section word.now (pair_line racing (shown t s.now)) (rows_of low.now high.now t.accesses)) out.new result }
-{
-    let n = wide(t.accesses);
-    let count = count_rows(n, low, high);
-    let ns = [count];
-    let w = put_line(out, k, word, &ns);
-    if count == 0 {
-        return w;
+// The pairs of one section: the races, or the illegal locks, of an accepted table, as rows whose numbers are those of its accesses, or of its
+// locks. Whether the table stands whole in its bytes plays no part.
+#[derive(Clone, Copy)]
+pub struct Pairs<'a> {
+    pub which: Section,
+    pub t: Table<'a>,
+    pub rows: &'a Rows,
+    pub ghost accepted: { Accepted (shown t) } by { accepted_prop (shown t) },
+    pub ghost within: { RowsWithin which (shown t) rows.now.low rows.now.high } by { rows_prop which (shown t) rows.now.low rows.now.high },
+}
+
+impl Pairs<'_> {
+    // How many bytes the section takes. The word is the caller's, since the promise is of any short word.
+    #[tactic(auto, using(table::proofs::Bounds::few_accesses_lem))]
+    pub fn section_length(&self, word: &[u8]) -> usize
+        requires { length word.now ≤ 8 }
+        ensures { (result ≡ length (section word.now (pair_line self.now.which (shown self.now.t)) (rows_of self.now.rows.now.low self.now.rows.now.high self.now.t.accesses))) × (result ≤ 600000) }
+    {
+        let count = self.rows.count(usize::from(self.t.accesses));
+        let first = word.len() + 2 + digits(count);
+        if count == 0 {
+            return first;
+        }
+        first + Measured::of(self).rows_length()
     }
-    let mut lens = [0u8; 128];
-    measure_tails(racing, t, s, &mut lens);
-    let mut tails = [0u8; 1024];
-    put_tails(racing, t, s, &lens, &mut tails);
-    put_rows(out, w, racing, t, s, low, high, 0, n, &lens, &tails)
+
+    #[tactic(auto, using(table::proofs::Bounds::few_accesses_lem))]
+    pub fn put_section(&self, out: &mut [u8], k: usize, word: &[u8]) -> usize
+        requires { (k ≤ 600000) × (length word.now ≤ 8) × (k + length (section word.now (pair_line self.now.which (shown self.now.t)) (rows_of self.now.rows.now.low self.now.rows.now.high self.now.t.accesses)) ≤ length out.old) }
+        ensures { Wrote out.old k (section word.now (pair_line self.now.which (shown self.now.t)) (rows_of self.now.rows.now.low self.now.rows.now.high self.now.t.accesses)) out.new result }
+    {
+        let n = usize::from(self.t.accesses);
+        let count = self.rows.count(n);
+        let mut pen = Pen::new(out, k);
+        pen.line(word, &[count]);
+        let w = pen.at;
+        if count == 0 {
+            return w;
+        }
+        Ends::of(self).put_rows(out, w, 0, n)
+    }
 }

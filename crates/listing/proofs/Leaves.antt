@@ -6,23 +6,23 @@ use mathlib.Core.List.{List}
 use native.Mathlib.Omega.{arith}
 use lib.ListN.{length}
 use borrow.Author.Tests.{lt-leb, le-leb}
+use Rattle.std.specs.Prelude.{Ok, Err}
 use Rattle.rules.specs.Calls.{writing}
 use Rattle.rules.specs.Listing.{writing_text}
-use Rattle.table.specs.Answers.{number, place}
-use Rattle.table.specs.declared.Fault.TheVariants.{Room}
-use Rattle.listing.specs.declared.Written.TheVariants.{Bytes, Refused}
-use Rattle.listing.specs.Answers.{left}
+use Rattle.table.specs.Answers.{numbered, number, left}
+use Rattle.table.specs.declared.refusals.Fault.{Fault}
+use Rattle.table.specs.declared.refusals.Refusal.TheVariants.{Room}
 use Rattle.rows.specs.Writing.{Wrote}
 use Rattle.rows.proofs.Written.{from_start}
 
 module _ (t l : List ℕ) {need : ℕ} (p : need ≡ length t) where
-  pub too_short : length l < need → left (Refused (Room need)) l ≡ writing_text t l
-  unfolding left number place writing_text writing
-  too_short h =
+  pub too_short : (f : Fault) → f ≡ record { refusal = Room; place = need } → length l < need → left (Err f) l ≡ writing_text t l
+  unfolding left numbered number writing_text writing
+  too_short f q h =
       let s : length l < length t = omega arith in
-      rw (lt-leb (length t) (length l) s, p)
+      rw (q, lt-leb (length t) (length l) s, p)
 
-  pub fits : {m : List ℕ} {r : ℕ} → need ≤ length l → Wrote l 0 t m r → left (Bytes r) m ≡ writing_text t l
+  pub fits : {m : List ℕ} {r : ℕ} → need ≤ length l → Wrote l 0 t m r → left (Ok r) m ≡ writing_text t l
   unfolding left writing_text writing
   fits {m} {r} h v =
       let q : r ≡ length t = omega (arith, v.place) in

@@ -1,9 +1,9 @@
 -- The rows that were found: their numbers are below the number of accesses, or of locks, and their pairs are the table's.
 -- Assumes nothing.
-use Prim.Native.Nat.{ℕ, zero, suc, ◌+◌, ◌<◌}
-use mathlib.Core.Path.{◌≡◌, refl, sym, ◌∙◌}
-use mathlib.Core.Bool.{Bool, true, false, false≢true}
-use mathlib.Core.List.{List, []}
+use Prim.Native.Nat.{ℕ, ◌+◌, ◌<◌}
+use mathlib.Core.Path.{◌≡◌, sym, ◌∙◌}
+use mathlib.Core.Bool.{Bool, true, false≢true}
+use mathlib.Core.List.{List}
 use native.Mathlib.Omega.{arith}
 use native.Mathlib.Decide.{dec_lt}
 use lib.ListN.{get_or, replicate}
@@ -18,7 +18,8 @@ use Rattle.rows.specs.Rows.{Row}
 use Rattle.matrix.specs.Matrix.{RaceRows, IllegalRows}
 use Rattle.rows.specs.Writing.{rows_of}
 use Rattle.rows.proofs.Bits.{has_none, has_zero}
-use Rattle.matrix.proofs.PairsFound.{race_pairs, illegal_pairs}
+use Rattle.races.proofs.ListAnswers.{races_found, illegals_found}
+use Rattle.lines.specs.declared.Section.TheVariants.{Races, Illegals}
 use Rattle.lines.specs.Lines.{seconds, RowsWithin}
 use Rattle.lines.proofs.TailsMade.{zero_at}
 
@@ -30,7 +31,7 @@ row_within w p b n x j r e = side (dec_lt j w)
     side (no h) = absurd (false≢true (sym (has_none w j x r.fits (omega arith)) ∙ e))
 
 module _ (t : Table) where
-  pub race_within : {low₀ high₀ low high : List ℕ} → RaceRows t low₀ high₀ low high → RowsWithin true t low high
+  pub race_within : {low₀ high₀ low high : List ℕ} → RaceRows t low₀ high₀ low high → RowsWithin Races t low high
   unfolding seconds
   race_within {low₀} {high₀} {low} {high} r =
       record {
@@ -40,23 +41,17 @@ module _ (t : Table) where
         };
       }
 
-  pub illegal_within : {rows₀ rows : List ℕ} → IllegalRows t rows₀ rows → RowsWithin false t rows (replicate 128 0)
+  pub illegal_within : {rows₀ rows high : List ℕ} → IllegalRows t rows₀ rows → high ≡ replicate 128 0 → RowsWithin Illegals t rows high
   unfolding seconds
-  illegal_within {rows₀} {rows} r =
+  illegal_within {rows₀} {rows} r z =
       record {
         each = λ i h. record {
           lows = λ j l e. omega (arith, row_within 32 (illegal t i) 0 t.locks (get_or rows i 0) j (r.words i h) e);
-          highs = λ j l e. absurd (false≢true (sym (has_zero j) ∙ rw (zero_at 128 i) at e));
+          highs = λ j l e. absurd (false≢true (sym (has_zero j) ∙ rw (z, zero_at 128 i) at e));
         };
       }
 
--- A high word of 0 may stand in a list of zeros, or in none.
-no_highs : (low : List ℕ) (m n : ℕ) → rows_of low (replicate m 0) n ≡ rows_of low [] n
-unfolding rows_of
-no_highs low m zero = refl
-no_highs low m (suc n) = rw (no_highs low m n, zero_at m n)
-
-pub text_found : (t : Table) → Accepted t → {low₀ high₀ low high rows₀ rows : List ℕ} {n : ℕ} → n ≡ t.accesses → RaceRows t low₀ high₀ low high → IllegalRows t rows₀ rows
-    → text t (rows_of low high n) (rows_of rows (replicate 128 0) n) ≡ listing t
+pub text_found : (t : Table) → Accepted t → {low₀ high₀ low high rows₀ rows none : List ℕ} {n : ℕ} → n ≡ t.accesses → RaceRows t low₀ high₀ low high
+    → IllegalRows t rows₀ rows → none ≡ replicate 128 0 → text t (rows_of low high n) (rows_of rows none n) ≡ listing t
 unfolding listing
-text_found t ok {rows = rows} e r s = rw (e, race_pairs t ok r, no_highs rows 128 t.accesses, illegal_pairs t ok s)
+text_found t ok {n = n} e r s z = rw (races_found t ok n e r, illegals_found t ok n e s z)

@@ -1,32 +1,29 @@
 // The listing of a table that is refused: its one line.
 ghost use Rattle.std.specs.Prelude.{◌≡◌};
 ghost use Rattle.rules.specs.Listing.{refused_line, writing_text};
-ghost use Rattle.table.specs.Answers.{number, place};
+ghost use Rattle.table.specs.Answers.{number, left};
 ghost use Rattle.rows.specs.Writing.{Wrote};
-ghost use Rattle.listing.specs.Answers.{left};
 
-use crate::Written;
-use table::Fault;
-use text::{put_line, put_part};
+use table::{Fault, Refusal};
+use text::Pen;
 
 fn put_refused(out: &mut [u8], f: Fault) -> usize
-    ensures { Wrote out.old 0 (refused_line (number f) (place f)) out.new result }
+    ensures { Wrote out.old 0 (refused_line (number f) f.place) out.new result }
 {
     let number = f.number();
-    let place = f.place();
-    let ns = [number];
-    let w = put_part(out, 0, b"refused", &ns);
-    let ps = [place];
-    put_line(out, w, b" at", &ps)
+    let mut pen = Pen::new(out, 0);
+    pen.part(b"refused", &[number]);
+    pen.line(b" at", &[f.place]);
+    pen.at
 }
 
-pub(crate) fn list_refused(f: Fault, out: &mut [u8]) -> Written
-    ensures { left result out.new ≡ writing_text (refused_line (number f) (place f)) out.old }
+// A run over no buffer counts the line's bytes.
+pub(crate) fn list_refused(f: Fault, out: &mut [u8]) -> Result<usize, Fault>
+    ensures { left result out.new ≡ writing_text (refused_line (number f) f.place) out.old }
 {
-    let mut none = [0u8; 0];
-    let need = put_refused(&mut none, f);
+    let need = put_refused(&mut [0; 0], f);
     if out.len() < need {
-        return Written::Refused(Fault::Room(need));
+        return Err(Refusal::Room.at(need));
     }
-    Written::Bytes(put_refused(out, f))
+    Ok(put_refused(out, f))
 }

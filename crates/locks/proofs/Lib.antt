@@ -1,2 +1,3 @@
+pub mod ByKind
 pub mod Search
 pub mod Unique

@@ -17,11 +17,11 @@ pub in_set_unique :
 in_set_unique κs a r₁ r₂ s₁ s₂ p q = p ∙ sym q
 
 pub masked_unique :
-    (κs : Lfts 1) (a : Dens κs masked-kinds.ps) (r₁ r₂ : (res_t masked-kinds.r κs).Denot) (s₁ s₂ : AtExit (ended_of 1 masked-kinds.ps masked-kinds.r) κs)
+    (κs : Lfts 2) (a : Dens κs masked-kinds.ps) (r₁ r₂ : (res_t masked-kinds.r κs).Denot) (s₁ s₂ : AtExit (ended_of 2 masked-kinds.ps masked-kinds.r) κs)
     → masked-reads.Post κs a r₁ s₁ → masked-reads.Post κs a r₂ s₂ → r₁ ≡ r₂
 masked_unique κs a r₁ r₂ s₁ s₂ p q = p ∙ sym q
 
 pub blocked_unique :
-    (κs : Lfts 1) (a : Dens κs blocked-kinds.ps) (r₁ r₂ : (res_t blocked-kinds.r κs).Denot) (s₁ s₂ : AtExit (ended_of 1 blocked-kinds.ps blocked-kinds.r) κs)
+    (κs : Lfts 2) (a : Dens κs blocked-kinds.ps) (r₁ r₂ : (res_t blocked-kinds.r κs).Denot) (s₁ s₂ : AtExit (ended_of 2 blocked-kinds.ps blocked-kinds.r) κs)
     → blocked-reads.Post κs a r₁ s₁ → blocked-reads.Post κs a r₂ s₂ → r₁ ≡ r₂
 blocked_unique κs a r₁ r₂ s₁ s₂ p q = p ∙ sym q

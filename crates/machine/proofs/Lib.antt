@@ -1,6 +1,7 @@
 -- What the functions' proofs cite.
 pub mod Passed
 pub mod AllTested
+pub mod EachPlace
 pub mod EmptySets
 pub mod HeldByOthers
 pub mod OthersLeave

@@ -17,16 +17,16 @@ use Rattle.rules.specs.Reading.{Is, read}
 use Rattle.rules.specs.Accepted.{Accepted}
 use Rattle.rules.specs.Machine as rules
 use Rattle.rules.specs.Machine.{fresh, named, step, run}
-use Rattle.rules.specs.Calls.{Left, reading, refusing, stepped, step_call}
+use Rattle.std.specs.Prelude.{Result, Ok}
+use Rattle.rules.specs.Calls.{Left, Value, Refusal, reading, refusing, stepped, step_call}
+use Rattle.table.specs.declared.refusals.Fault.{Fault}
 use Rattle.rules.proofs.Accepted.{accepted}
 use Rattle.rules.proofs.Nodes.{task_at}
 use Rattle.rules.proofs.Steps.{granted, run_first, run_then}
 use Rattle.machine.specs.declared.State.{State}
 use Rattle.machine.specs.declared.Step.{Step}
 use Rattle.machine.specs.declared.Step.TheVariants.{Start, Open, Close, Finish}
-use Rattle.machine.specs.declared.StepAnswer.TheVariants.{Granted}
-use Rattle.machine.specs.declared.Stepped.{Stepped}
-use Rattle.machine.specs.Answers.{step_of, answered, left}
+use Rattle.machine.specs.Answers.{step_of, left}
 use Rattle.machine.specs.Plays.{MayAnswer, number_of, CanPass, Plays, end, call, steps_of}
 use Rattle.machine.proofs.Unique.{places_same}
 use Rattle.machine.proofs.State.fresh.Kinds as fresh-kinds
@@ -46,11 +46,11 @@ pub fresh_answers :
 fresh_answers κs a r x = (λ p. p, λ p. p)
 
 -- A granted answer is the machine's grant, of the same state.
-granted_answer : (s : List ℕ) (m : rules.Stepped) (r : Stepped) → left r ≡ stepped s m → r.answer ≡ Granted → m ≡ rules.Granted r.state.places
-unfolding left answered stepped refusing
-granted_answer s (rules.Granted s') r e g = ap rules.Granted (sym (ap (λ (l : Left). l.buffer) e))
-granted_answer s (rules.Denied n) r e g =
-    let a : answered r.answer ≡ _ = ap (λ (l : Left). l.answer) e in
+granted_answer : (s : State) (m : rules.Stepped) (n : State) → left s (Ok n) ≡ stepped s.places m → m ≡ rules.Granted n.places
+unfolding left stepped refusing
+granted_answer s (rules.Granted s') n e = ap rules.Granted (sym (ap (λ (l : Left). l.buffer) e))
+granted_answer s (rules.Denied k) n e =
+    let w : Value 0 ≡ Refusal k 0 = ap (λ (l : Left). l.answer) e in
     let z : ◌≡◌ {A = ℕ} 0 1 = cc in absurd (omega arith)
 
 -- A step that names a task or an access names a small number.
@@ -61,25 +61,21 @@ named_can_pass t ok (Open i) h = omega (arith, ltb-true i t.accesses h, ok.few_a
 named_can_pass t ok (Close x) h = omega (arith, (task_at t.tree x h).0, ok.tree.few)
 named_can_pass t ok (Finish x) h = omega (arith, (task_at t.tree x h).0, ok.tree.few)
 
--- The answer that grants, with the state s'.
-abbrev grant : List ℕ → Stepped
-grant s' = record { answer = Granted; state = record { places = s' } }
-
 module _ (b : List ℕ) (t : Table) (e : read b ≡ Is t) where
-  answers_step : (s : State) (c : Step) (r : Stepped) → MayAnswer b s c r → left r ≡ stepped s.places (step t s.places (step_of c))
+  answers_step : (s : State) (c : Step) (r : Result State Fault) → MayAnswer b s c r → left s r ≡ stepped s.places (step t s.places (step_of c))
   unfolding step_call reading
   answers_step s c r p = rw e at p
 
-  grants_answer : (s : State) (c : Step) (s' : List ℕ) → step t s.places (step_of c) ≡ rules.Granted s' → MayAnswer b s c (grant s')
-  unfolding step_call reading stepped left answered
+  grants_answer : (s : State) (c : Step) (s' : List ℕ) → step t s.places (step_of c) ≡ rules.Granted s' → MayAnswer b s c (Ok (record { places = s' }))
+  unfolding step_call reading stepped left
   grants_answer s c s' h = rw (e, h)
 
   play_runs : (s : State) (cs : List Step) (s' : State) → Plays b s cs s' → run t s.places (steps_of cs) ≡ rules.Granted s'.places
   unfolding run steps_of
   play_runs s [] s' end = refl
-  play_runs s (c ∷ cs) s' (call r f p g ps) =
-      run_then t s.places (step_of c) r.state.places (steps_of cs) s'.places
-      (granted_answer s.places _ r (answers_step s c r p) g) (play_runs r.state cs s' ps)
+  play_runs s (c ∷ cs) s' (call n f p ps) =
+      run_then t s.places (step_of c) n.places (steps_of cs) s'.places
+      (granted_answer s _ n (answers_step s c (Ok n) p)) (play_runs n cs s' ps)
 
   run_plays : (s : State) (cs : List Step) (s' : State) → run t s.places (steps_of cs) ≡ rules.Granted s'.places → Plays b s cs s'
   unfolding run steps_of
@@ -87,7 +83,8 @@ module _ (b : List ℕ) (t : Table) (e : read b ≡ Is t) where
   run_plays s (c ∷ cs) s' h =
       let w = run_first t s.places (step_of c) (steps_of cs) s'.places h in
       let names = (granted t s.places (step_of c) w.0 w.1).names in
-      call (grant w.0) (named_can_pass t (accepted b t e) c names) (grants_answer s c w.0 w.1) refl (run_plays (grant w.0).state cs s' w.2)
+      let next : State = record { places = w.0 } in
+      call next (named_can_pass t (accepted b t e) c names) (grants_answer s c w.0 w.1) (run_plays next cs s' w.2)
 
   pub plays_iff_run : (s : State) (cs : List Step) (s' : State) → Plays b s cs s' ↔ (run t s.places (steps_of cs) ≡ rules.Granted s'.places)
   plays_iff_run s cs s' = (play_runs s cs s', run_plays s cs s')

@@ -1,9 +1,8 @@
 -- Who steps in an accepted table is a node and has a place, and what stands there after the step is a byte.
 -- Assumes nothing.
-use Prim.Native.Nat.{ℕ, ◌<◌}
+use Prim.Native.Nat.{◌<◌}
 use mathlib.Core.Path.{◌≡◌}
 use mathlib.Core.Bool.{true}
-use mathlib.Core.List.{List}
 use native.Mathlib.Omega.{arith}
 use borrow.Author.Tests.{ltb-true}
 use Rattle.rules.specs.Table.{Table}
@@ -33,5 +32,5 @@ module _ (t : Table) (ok : Accepted t) where
   next_byte (Finish x) e = omega arith
 
 -- The same by the count of the struct that shows the table.
-pub is_shown_node : (t : code.Table) (b : List ℕ) → Accepted (shown t b) → (c : Step) → named (shown t b) c ≡ true → stepper (shown t b) c < t.nodes
-is_shown_node t b ok c e = omega (arith, is_node (shown t b) ok c e, nodes_shown t b)
+pub is_shown_node : (t : code.Table) → Accepted (shown t) → (c : Step) → named (shown t) c ≡ true → stepper (shown t) c < t.nodes
+is_shown_node t ok c e = omega (arith, is_node (shown t) ok c e, nodes_shown t)

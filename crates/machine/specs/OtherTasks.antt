@@ -1,13 +1,11 @@
 -- The tasks other than the one that steps, gone through once: who yields the processor, and the locks that they hold together.
 -- Assumes nothing.
-use Rattle.std.specs.Prelude.{ℕ, zero, suc, Bool, true, false, not, ◌&&◌, ◌||◌, cond, List, eqb}
+use Rattle.std.specs.Prelude.{ℕ, zero, suc, Bool, true, false, not, ◌&&◌, ◌||◌, cond, List, Option, None, Some, eqb}
 use Rattle.std.specs.Int.Bits.{bit_or}
 use Rattle.rules.specs.Table.{Table}
 use Rattle.rules.specs.Preemption.{may_preempt}
 use Rattle.rules.specs.Locks.{masked, blocked}
 use Rattle.rules.specs.Machine.{place, idle, held, Step, Start, Open, Close, Finish}
-use Rattle.machine.specs.declared.taking.Others.{Others}
-use Rattle.machine.specs.declared.taking.Others.TheVariants.{Keep, Yield}
 
 -- Task x may take the processor from task u, at whose place v stands: what `may_take` asks of every u.
 abbrev pub yields : Table → ℕ → ℕ → ℕ → Bool
@@ -25,10 +23,10 @@ held_below (suc n) t s x = bit_or (held_below n t s x) (adds t x n (place s n))
 unfoldable pub held_by_others : Table → List ℕ → ℕ → ℕ
 held_by_others t s x = held_below t.tree.nodes t s x
 
--- The others all yield and hold these locks, or one of them keeps the processor.
-unfoldable pub leaves : Bool → ℕ → Others
-leaves true locks = Yield locks
-leaves false locks = Keep
+-- The others all yield and hold these locks, or one of them keeps the processor, and nothing is left.
+unfoldable pub leaves : Bool → ℕ → Option ℕ
+leaves true locks = Some locks
+leaves false locks = None
 
 -- Open alone asks for blocking locks: none of them is among these, which the others hold.
 unfoldable pub free_of : Table → ℕ → Step → Bool

@@ -1,19 +1,18 @@
 -- Playing steps through the code: what one call of `step` may answer by its contract, and a sequence of calls that are all granted.
 -- Assumes nothing.
-use Rattle.std.specs.Prelude.{ℕ, ◌^◌, ◌<◌, ◌≡◌, List, [], ◌∷◌}
+use Rattle.std.specs.Prelude.{ℕ, ◌^◌, ◌<◌, ◌≡◌, List, [], ◌∷◌, Result, Ok}
 use Rattle.rules.specs.Table.{Table}
 use Rattle.rules.specs.Machine as rules
 use Rattle.rules.specs.Calls.{step_call}
+use Rattle.table.specs.declared.refusals.Fault.{Fault}
 use Rattle.machine.specs.declared.State.{State}
 use Rattle.machine.specs.declared.Step.{Step}
 use Rattle.machine.specs.declared.Step.TheVariants.{Start, Open, Close, Finish}
-use Rattle.machine.specs.declared.StepAnswer.TheVariants.{Granted}
-use Rattle.machine.specs.declared.Stepped.{Stepped}
 use Rattle.machine.specs.Answers.{step_of, left}
 
 -- `step`, called on the bytes b from the state s for the step c, may answer r.
-abbrev pub MayAnswer : List ℕ → State → Step → Stepped → Type 0
-MayAnswer b s c r = left r ≡ step_call b s.places (step_of c)
+abbrev pub MayAnswer : List ℕ → State → Step → Result State Fault → Type 0
+MayAnswer b s c r = left s r ≡ step_call b s.places (step_of c)
 
 -- The number that a step names; a caller can pass it where it is a `usize`.
 unfoldable pub number_of : Step → ℕ
@@ -28,7 +27,7 @@ CanPass c = number_of c < 2 ^ 64
 -- The steps cs, played one call after the other on the bytes b from the state s, are all granted and end in the state s'.
 pub data Plays (b : List ℕ) : State → List Step → State → Type 0 where
   end : {s : State} → Plays b s [] s
-  call : {s s' : State} {c : Step} {cs : List Step} (r : Stepped) → CanPass c → MayAnswer b s c r → r.answer ≡ Granted → Plays b r.state cs s' → Plays b s (c ∷ cs) s'
+  call : {s s' : State} {c : Step} {cs : List Step} (r : State) → CanPass c → MayAnswer b s c (Ok r) → Plays b r cs s' → Plays b s (c ∷ cs) s'
 
 unfoldable pub steps_of : List Step → List rules.Step
 steps_of [] = []

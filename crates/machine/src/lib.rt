@@ -6,17 +6,18 @@ mod steps;
 mod taking;
 
 ghost use Rattle.std.specs.Prelude.{◌≡◌};
-ghost use Rattle.rules.specs.Accepted.{Accepted};
 ghost use Rattle.rules.specs.Machine as rules;
-ghost use Rattle.rules.specs.Calls.{stepped, step_call, refusing};
-ghost use Rattle.table.specs.Answers.{shown, number, place};
+ghost use Rattle.rules.specs.Calls.{stepped, step_call};
+ghost use Rattle.table.specs.Answers.{shown};
 ghost use Rattle.machine.specs.Answers.{step_of, left};
 
+pub use places::Place;
 use places::well_formed;
-use table::{Answer, Fault, Table};
-use taking::{Others, pass};
+use table::{Checked, Fault, Refusal, Table};
+use taking::pass;
 
-// One place a node number: what stands there says whether the task is idle, outside, or inside an access.
+// One place a node number: what stands there says whether the task is idle, outside, or inside an access. The places are bytes, since C lends
+// them so.
 #[derive(Clone, Copy)]
 pub struct State {
     pub places: [u8; 128],
@@ -31,26 +32,8 @@ pub enum Step {
     Finish(usize),
 }
 
-#[derive(Clone, Copy)]
-pub enum StepAnswer {
-    Granted,
-    Refused(Fault),
-}
-
-#[derive(Clone, Copy)]
-pub struct Stepped {
-    pub answer: StepAnswer,
-    pub state: State,
-}
-
 impl State {
-    pub const IDLE: u8 = 0;
-
-    pub const OUTSIDE: u8 = 1;
-
-    // Inside access 0; access i is i further.
-    pub const INSIDE: u8 = 2;
-
+    #[tactic(auto, unfolding(rules::specs::Machine::fresh))]
     pub fn fresh() -> State
         ensures { result.places ≡ rules.fresh }
     {
@@ -58,59 +41,37 @@ impl State {
     }
 
     // The call: one step of the machine, on the table that the bytes are.
-    pub fn step(self, s: &[u8], step: Step) -> Stepped
-        ensures { left result ≡ step_call s.now self.places (step_of step) }
+    pub fn step(self, bytes: &[u8], step: Step) -> Result<State, Fault>
+        ensures { left self result ≡ step_call bytes.now self.places (step_of step) }
     {
-        let a = Table::read(s);
-        match a {
-            Answer::Refused(f) => {
-                return self.refused(f);
-            }
-            Answer::Read(t) => {
-                return self.played(t, s, step);
-            }
-        }
+        let t = Table::read(bytes)?;
+        self.played(&t, step)
     }
 
     // One step on a table that has been read.
-    fn played(self, t: Table, s: &[u8], step: Step) -> Stepped
-        requires { Accepted (shown t s.now) }
-        ensures { left result ≡ stepped self.places (rules.step (shown t s.now) self.places (step_of step)) }
+    #[tactic(auto, using(crate::proofs::Passed::passes, crate::proofs::Steppers::has_place, crate::proofs::Steppers::is_shown_node, crate::proofs::Steppers::next_byte))]
+    fn played(mut self, t: &Checked<'_>, step: Step) -> Result<State, Fault>
+        ensures { left self result ≡ stepped self.places (rules.step (shown t.now.table) self.places (step_of step)) }
     {
-        let mut p = self.places;
-        if !well_formed(t, s, &p) {
-            return self.refused(Fault::State(0));
+        if !well_formed(&t.table, &self.places) {
+            return Err(Refusal::State.at(0));
         }
-        if !step.named(t, s) {
-            return self.refused(Fault::Name(0));
+        if !step.named(&t.table) {
+            return Err(Refusal::Name.at(0));
         }
-        let x = step.stepper(t, s);
-        let v = p[x];
-        if !step.fits(v) {
-            return self.refused(Fault::Phase(0));
+        let x = step.stepper(t);
+        let before = self.places[x];
+        if !step.fits(Place::from(before)) {
+            return Err(Refusal::Phase.at(0));
         }
-        let others = pass(t, s, &p, x);
-        let Others::Yield(locks) = others else {
-            return self.refused(Fault::Processor(0));
+        let Some(locks) = pass(t, &self.places, x) else {
+            return Err(Refusal::Processor.at(0));
         };
-        if !step.free(t, s, locks) {
-            return self.refused(Fault::Held(0));
+        if !step.free(t, locks) {
+            return Err(Refusal::Held.at(0));
         }
-        let w = step.next();
-        p[x] = w;
-        Stepped {
-            answer: StepAnswer::Granted,
-            state: State { places: p },
-        }
-    }
-
-    // The state as it was given.
-    fn refused(self, f: Fault) -> Stepped
-        ensures { left result ≡ refusing (number f) (place f) self.places }
-    {
-        Stepped {
-            answer: StepAnswer::Refused(f),
-            state: self,
-        }
+        let after = step.next().byte();
+        self.places[x] = after;
+        Ok(self)
     }
 }

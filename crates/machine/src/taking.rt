@@ -1,61 +1,45 @@
 // Taking the processor: one pass over the other tasks, which must all yield it, and whose locks are gathered on the way.
 ghost use Rattle.std.specs.Prelude.{◌≡◌, ◌<◌, ◌≤◌};
-ghost use Rattle.std.specs.Int.Bits.{bit_or};
 ghost use Rattle.rules.specs.Machine.{may_take};
 ghost use Rattle.table.specs.Answers.{shown};
 ghost use Rattle.machine.specs.OtherTasks.{yields, adds, held_by_others, leaves};
+ghost use Rattle.machine.specs.Places.{byte_of};
 
-use crate::State;
-use crate::places::held;
+use crate::places::{Place, held};
 use locks::masked;
-use table::Table;
-use table::bytes::wide;
+use table::{Checked, Table};
 use tree::may_preempt;
 
-// What the other tasks leave to the one that steps: an active one keeps the processor, or all yield it and together hold these locks.
-#[derive(Clone, Copy)]
-pub(crate) enum Others {
-    Keep,
-    Yield(u32),
-}
-
-// Tasks that all yield to x and hold these locks, and one more: task u, at whose place v stands.
-fn one_more(t: Table, s: &[u8], x: usize, locks: u32, u: usize, v: u8) -> Others
-    requires { (t.locks ≤ 32) × (x < 256) }
-    ensures { result ≡ leaves (yields (shown t s.now) x u v) (bit_or locks (adds (shown t s.now) x u v)) }
+// What task u, by its place, leaves to task x: the locks that it holds against x, or None where it keeps the processor.
+#[tactic(auto, unfolding(crate::specs::Places::byte_of, rules::specs::Machine::held, crate::specs::OtherTasks::leaves))]
+fn one_leaves(t: &Table<'_>, x: usize, u: usize, place: Place) -> Option<u32>
+    requires { (t.now.locks ≤ 32) × (x < 256) }
+    ensures { result ≡ leaves (yields (shown t.now) x u (byte_of place)) (adds (shown t.now) x u (byte_of place)) }
 {
     if u == x {
-        return Others::Yield(locks);
+        return Some(0);
     }
-    if v == State::IDLE {
-        return Others::Yield(locks);
+    if let Place::Idle = place {
+        return Some(0);
     }
-    if !may_preempt(t, s, x, u) {
-        return Others::Keep;
+    if !may_preempt(t, x, u) {
+        return None;
     }
-    let set = held(t, s, v);
-    if masked(t, s, set, x) {
-        return Others::Keep;
-    }
-    Others::Yield(locks | set)
+    let set = held(t, place);
+    if masked(t, set, x) { None } else { Some(set) }
 }
 
-// What the others leave to task x.
-pub(crate) fn pass(t: Table, s: &[u8], p: &[u8; 128], x: usize) -> Others
-    requires { (t.nodes ≤ 128) × (t.locks ≤ 32) × (x < t.nodes) }
-    ensures { result ≡ leaves (may_take (shown t s.now) p.now x) (held_by_others (shown t s.now) p.now x) }
+// What the others leave to task x: the locks that they hold together, or None where one of them keeps the processor.
+#[tactic(auto, using(table::proofs::Bounds::few_nodes, table::proofs::Bounds::few_locks_lem))]
+pub(crate) fn pass(t: &Checked<'_>, p: &[u8; 128], x: usize) -> Option<u32>
+    requires { x < t.now.table.nodes }
+    ensures { result ≡ leaves (may_take (shown t.now.table) p.now x) (held_by_others (shown t.now.table) p.now x) }
 {
-    let count = wide(t.nodes);
     let mut locks = 0;
-    let mut u = 0;
-    while u < count {
-        let v = p[u];
-        let all = one_more(t, s, x, locks, u, v);
-        let Others::Yield(more) = all else {
-            return Others::Keep;
-        };
-        locks = more;
-        u += 1;
+    for u in 0..usize::from(t.table.nodes) {
+        let place = Place::from(p[u]);
+        let set = one_leaves(&t.table, x, u, place)?;
+        locks |= set;
     }
-    Others::Yield(locks)
+    Some(locks)
 }

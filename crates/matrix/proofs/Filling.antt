@@ -1,13 +1,14 @@
 -- Words stored one after the other: those before i are right, those from i on are as they were.
 -- Assumes nothing.
-use Prim.Native.Nat.{ℕ, ◌+◌, ◌<◌}
-use mathlib.Core.Path.{◌≡◌, refl, ◌∙◌}
-use mathlib.Core.List.{List}
+use Prim.Native.Nat.{ℕ, ◌+◌, ◌-◌, ◌≤◌, ◌<◌}
+use mathlib.Core.Path.{◌≡◌, refl, ap, ◌∙◌}
+use mathlib.Core.List.{List, ◌++◌}
 use native.Mathlib.Decide.{ℕ_discrete}
 use native.Mathlib.Omega.{arith}
-use lib.ListN.{length, get_or, set, length-set}
+use lib.ListN.{length, get_or, set, take, drop, replicate, length-set, length-append, length-drop, length-replicate, get_or-append}
 use lib.Seq.{get_or-set_same, get_or-set_other}
 use lib.Bits.{bit_and}
+use Rattle.std.proofs.lemmas.List.{length-take-le, get_or-replicate, get_or-append_right, get_or-drop}
 use Rattle.rules.specs.Table.{Table}
 use Rattle.rows.specs.Rows.{Kept}
 use Rattle.matrix.specs.Words.{Unguarded, Filled, Cleared, NotOver, Unprovided}
@@ -42,12 +43,24 @@ filled_next {t} {same} {pre} {g} {rows₀} {rows} {i} {x} {r} {s} {v} b ex er es
       kept = kept_next v f.kept;
     }
 
-pub cleared_none : {rows : List ℕ} → Cleared 0 rows rows
-cleared_none = record { words = λ k h. absurd (omega arith); kept = kept_all }
+-- Zeros before the words from n on.
+pub cleared : {n : ℕ} {rows zeros : List ℕ} → n ≤ length rows → zeros ≡ replicate (length (take n rows)) 0 → Cleared n rows (zeros ++ drop n rows)
+cleared {n} {rows} {zeros} b e =
+    record {
+      words = λ i h.
+          let l : i < length zeros = omega (arith, long) in
+          get_or-append zeros (drop n rows) 0 i l ∙ rw all (get_or-replicate n i 0 0 h);
+      kept = record {
+        sized = omega (arith, length-append zeros (drop n rows), length-drop n rows, long);
+        words = λ i h. let z : n + (i - n) ≡ i = omega arith in get_or-append_right zeros (drop n rows) n i 0 long h ∙ rw z at (get_or-drop n rows (i - n) 0);
+      };
+    }
+  where
+    all : zeros ≡ replicate n 0
+    all = rw (length-take-le n rows b) at e
 
-pub cleared_next : {i : ℕ} {rows₀ rows : List ℕ} → i < length rows → Cleared i rows₀ rows → Cleared (i + 1) rows₀ (set rows i 0)
-cleared_next {i} {rows₀} {rows} b f =
-    record { words = words_next (λ k w. w ≡ 0) i 0 rows b refl f.words; kept = kept_next 0 f.kept }
+    long : length zeros ≡ n
+    long = ap length all ∙ length-replicate n 0
 
 pub unprovided_none : {t : Table} {b : ℕ} {over rows : List ℕ} → Unprovided t b over 0 rows rows
 unprovided_none = record { words = λ k h. absurd (omega arith); kept = kept_all }

@@ -21,14 +21,14 @@ use Rattle.matrix.proofs.Stores.{same_test}
 use Rattle.matrix.proofs.Rowing.{rows_are}
 
 -- The rows against the accesses from base on, of the table that a struct shows.
-pub half_rows_are : (t : Table) (s : List ℕ) {base n b : ℕ} {tasks sub same pre g₀ g rows₀ rows : List ℕ}
-    → Accepted (shown t s) → Blocking (shown t s) t.locks b → base + n ≤ t.accesses
-    → Marked 128 (shown t s).task_of base n tasks → Marked 64 (shown t s).resource_of base n same → Gathered (shown t s).tree tasks sub
-    → Preempted (shown t s).tree sub pre → Holders (shown t s).lock_set base n b g₀ → Masks (shown t s) t.locks sub g₀ g
-    → Filled (shown t s) same pre g t.accesses rows₀ rows → HalfRows (shown t s) base n rows₀ rows
+pub half_rows_are : (t : Table) {base n b : ℕ} {tasks sub same pre g₀ g rows₀ rows : List ℕ}
+    → Accepted (shown t) → Blocking (shown t) t.locks b → base + n ≤ t.accesses
+    → Marked 128 (shown t).task_of base n tasks → Marked 64 (shown t).resource_of base n same → Gathered (shown t).tree tasks sub
+    → Preempted (shown t).tree sub pre → Holders (shown t).lock_set base n b g₀ → Masks (shown t) t.locks sub g₀ g
+    → Filled (shown t) same pre g t.accesses rows₀ rows → HalfRows (shown t) base n rows₀ rows
 unfolding shown table_at
-half_rows_are t s {base} {n} {b} {tasks} {sub} {same} {pre} {g₀} {g} ok bs few mt ms up down hs mk f =
-    rows_are (shown t s) ok base n b bs few tasks sub same pre g₀ g mt ms up down hs mk f
+half_rows_are t {base} {n} {b} {tasks} {sub} {same} {pre} {g₀} {g} ok bs few mt ms up down hs mk f =
+    rows_are (shown t) ok base n b bs few tasks sub same pre g₀ g mt ms up down hs mk f
 
 module _ (t : rules.Table) where
   half : {base n : ℕ} {rows₀ rows : List ℕ} → HalfRows t base n rows₀ rows → ((j : ℕ) → j < 64 → ltb j n ≡ ltb (base + j) t.accesses)

@@ -142,8 +142,8 @@ module _ (t : rules.Table) (ok : Accepted t) (b : ℕ) (bs : Blocking t t.locks 
         }
 
 -- The same of the table that a struct shows.
-pub illegal_rows_are : (t : Table) (s : List ℕ) {b : ℕ} {own over rows₀ rows : List ℕ} → Accepted (shown t s) → Blocking (shown t s) t.locks b
-    → Marked 128 (shown t s).provider 0 t.locks own → Inherited (shown t s).tree own over
-    → Unprovided (shown t s) b over t.accesses rows₀ rows → IllegalRows (shown t s) rows₀ rows
+pub illegal_rows_are : (t : Table) {b : ℕ} {own over rows₀ rows : List ℕ} → Accepted (shown t) → Blocking (shown t) t.locks b
+    → Marked 128 (shown t).provider 0 t.locks own → Inherited (shown t).tree own over
+    → Unprovided (shown t) b over t.accesses rows₀ rows → IllegalRows (shown t) rows₀ rows
 unfolding shown table_at
-illegal_rows_are t s {b} {own} {over} ok bs mp down f = locks_are (shown t s) ok b bs own over mp down f
+illegal_rows_are t {b} {own} {over} ok bs mp down f = locks_are (shown t) ok b bs own over mp down f

@@ -1,9 +1,11 @@
 -- The words that are made from one record after the other: after record j they are right up to j.
 -- Assumes nothing.
-use Prim.Native.Nat.{ℕ, ◌+◌, ◌^◌, ◌<◌}
+use Prim.Native.Nat.{ℕ, ◌+◌, ◌*◌, ◌^◌, ◌%◌, ◌<◌}
 use mathlib.Core.Path.{◌≡◌, ap, ◌∙◌}
 use mathlib.Core.List.{List}
 use native.Mathlib.Omega.{arith}
+use native.Mathlib.Nat.{one-mul, mod-eq_of_lt}
+use lib.Pow.{pow-lt}
 use lib.Dec.{eqb}
 use lib.ListN.{length, get_or, set, replicate, length-set, length-replicate}
 use lib.Bits.{bit_or}
@@ -33,3 +35,7 @@ pub blocking_next : {t : Table} {k b r : ℕ} → r ≡ add_lock (eqb (t.lock_ki
 unfolding add_lock
 blocking_next {t} {k} {b} {r} e f =
     record { bits = λ i h. rw e (bit_added b i k (eqb (t.lock_kind k) blocking) (eqb (t.lock_kind i) blocking) (f.bits i h) (λ d. rw d)) }
+
+-- Bit k of a word of 32, moved there.
+pub one_lock : (k : ℕ) → k < 32 → 1 * 2 ^ k % 2 ^ 32 ≡ 2 ^ k
+one_lock k h = rw one-mul (mod-eq_of_lt (pow-lt {j = 32} h))

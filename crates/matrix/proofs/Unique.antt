@@ -36,14 +36,17 @@ same_rows w p b n m l₀ l₁ l₂ f k g h = ext_get_or 0 l₁ l₂ (k.sized ∙
 pub race_rows_unique :
     (κs : Lfts 3) (a : Dens κs race-rows-kinds.ps) (r₁ r₂ : (res_t race-rows-kinds.r κs).Denot)
     (s₁ s₂ : AtExit (ended_of 3 race-rows-kinds.ps race-rows-kinds.r) κs)
-    → race-rows-reads.Post κs a r₁ s₁ → race-rows-reads.Post κs a r₂ s₂ → (s₁.1.1.0.now ≡ s₂.1.1.0.now) × (s₁.1.1.1.0.now ≡ s₂.1.1.1.0.now)
+    → race-rows-reads.Post κs a r₁ s₁ → race-rows-reads.Post κs a r₂ s₂ → (s₁.1.0.now.low ≡ s₂.1.0.now.low) × (s₁.1.0.now.high ≡ s₂.1.0.now.high)
 race_rows_unique κs a r₁ r₂ s₁ s₂ p q = (
   same_rows 64 _ 0 _ _ _ _ _ p.lows p.low_kept q.lows q.low_kept,
   same_rows 64 _ 64 _ _ _ _ _ p.highs p.high_kept q.highs q.high_kept,
 )
 
 pub illegal_rows_unique :
-    (κs : Lfts 2) (a : Dens κs illegal-rows-kinds.ps) (r₁ r₂ : (res_t illegal-rows-kinds.r κs).Denot)
-    (s₁ s₂ : AtExit (ended_of 2 illegal-rows-kinds.ps illegal-rows-kinds.r) κs)
-    → illegal-rows-reads.Post κs a r₁ s₁ → illegal-rows-reads.Post κs a r₂ s₂ → s₁.1.1.0.now ≡ s₂.1.1.0.now
-illegal_rows_unique κs a r₁ r₂ s₁ s₂ p q = same_rows 32 _ 0 _ _ _ _ _ p.words p.kept q.words q.kept
+    (κs : Lfts 3) (a : Dens κs illegal-rows-kinds.ps) (r₁ r₂ : (res_t illegal-rows-kinds.r κs).Denot)
+    (s₁ s₂ : AtExit (ended_of 3 illegal-rows-kinds.ps illegal-rows-kinds.r) κs)
+    → illegal-rows-reads.Post κs a r₁ s₁ → illegal-rows-reads.Post κs a r₂ s₂ → (s₁.1.0.now.low ≡ s₂.1.0.now.low) × (s₁.1.0.now.high ≡ s₂.1.0.now.high)
+illegal_rows_unique κs a r₁ r₂ s₁ s₂ p q = (
+  same_rows 32 _ 0 _ _ _ _ _ p.0.words p.0.kept q.0.words q.0.kept,
+  p.1 ∙ sym q.1,
+)

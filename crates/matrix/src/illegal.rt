@@ -1,72 +1,62 @@
 // Which locks are illegal for which access, as words: bit k stands for lock k.
-ghost use Rattle.std.specs.Prelude.{◌≡◌, length, replicate};
-ghost use Rattle.rules.specs.Accepted.{Accepted};
-ghost use Rattle.table.specs.Answers.{shown, Stands};
+ghost use Rattle.std.specs.Prelude.{◌≡◌, replicate};
+ghost use Rattle.table.specs.Answers.{shown};
 ghost use Rattle.matrix.specs.Matrix.{IllegalRows};
 ghost use Rattle.matrix.specs.Words.{Marked, Inherited, NotOver, Unprovided};
 
 use crate::nodes::parent_of;
 use crate::records::{access_at, blocking_locks, provider_at};
-use crate::single::one_lock;
-use table::Table;
-use table::bytes::wide;
+use crate::single::one;
+use rows::Rows;
+use table::Checked;
 
 // The locks that each node provides.
-fn provided(t: Table, s: &[u8], m: &mut [u32; 128])
-    requires { (Accepted (shown t s.now)) × (m.old ≡ replicate 128 0) × (Stands t s.now) }
-    ensures { Marked 128 (shown t s.now).provider 0 t.locks m.new }
+#[tactic(auto, using(table::proofs::Bounds::few_locks_lem))]
+fn provided(t: &Checked<'_>, m: &mut [u64; 128])
+    requires { m.old ≡ replicate 128 0 }
+    ensures { Marked 128 (shown t.now.table).provider 0 t.now.table.locks m.new }
 {
-    let count = wide(t.locks);
-    let mut k = 0;
-    while k < count {
-        let p = provider_at(t, s, k);
-        m[p] = m[p] | one_lock(k);
-        k += 1;
+    for k in 0..usize::from(t.table.locks) {
+        let p = provider_at(t, k);
+        m[p] |= one(k);
     }
 }
 
 // Each node takes over its parent's word, from the root down.
-fn inherit(t: Table, s: &[u8], m: &mut [u32; 128])
-    requires { (Accepted (shown t s.now)) × (length m.old ≡ 128) × (Stands t s.now) }
-    ensures { Inherited (shown t s.now).tree m.old m.new }
+fn inherit(t: &Checked<'_>, m: &mut [u64; 128])
+    ensures { Inherited (shown t.now.table).tree m.old m.new }
 {
-    let count = wide(t.nodes);
-    let mut c = 1;
-    while c < count {
-        let p = parent_of(t, s, c);
-        m[c] = m[c] | m[p];
-        c += 1;
+    for c in 1..usize::from(t.table.nodes) {
+        let p = parent_of(t, c);
+        m[c] |= m[p];
     }
 }
 
-fn not_over(set: u32, b: u32, over: u32) -> u32
+fn not_over(set: u32, b: u32, over: u64) -> u64
     ensures { NotOver set b over result }
 {
-    (set & b) & !over
+    u64::from(set & b) & !over
 }
 
-fn unprovided(t: Table, s: &[u8], b: u32, over: &[u32; 128], rows: &mut [u32; 128])
-    requires { (Accepted (shown t s.now)) × (length rows.old ≡ 128) × (Stands t s.now) }
-    ensures { Unprovided (shown t s.now) b over.now t.accesses rows.old rows.new }
+#[tactic(auto, using(table::proofs::Bounds::few_accesses_lem))]
+fn unprovided(t: &Checked<'_>, b: u32, over: &[u64; 128], rows: &mut [u64; 128])
+    ensures { Unprovided (shown t.now.table) b over.now t.now.table.accesses rows.old rows.new }
 {
-    let count = wide(t.accesses);
-    let mut i = 0;
-    while i < count {
-        let a = access_at(t, s, i);
-        let x = a.task;
-        rows[i] = not_over(a.locks, b, over[x]);
-        i += 1;
+    for i in 0..usize::from(t.table.accesses) {
+        let a = access_at(t, i);
+        rows[i] = not_over(a.locks, b, over[a.task]);
     }
 }
 
-// The locks that are illegal for each access: blocking ones of its set that no node above its task provides.
-pub fn illegal_rows(t: Table, s: &[u8], rows: &mut [u32; 128])
-    requires { (Accepted (shown t s.now)) × (length rows.old ≡ 128) × (Stands t s.now) }
-    ensures { IllegalRows (shown t s.now) rows.old rows.new }
+// The locks that are illegal for each access, in its low word: blocking ones of its set that no node above its task provides.
+pub fn illegal_rows(t: &Checked<'_>, rows: &mut Rows)
+    ensures { (IllegalRows (shown t.now.table) rows.old.low rows.new.low) × (rows.new.high ≡ rows.old.high) }
 {
-    let b = blocking_locks(t, s);
-    let mut over = [0u32; 128];
-    provided(t, s, &mut over);
-    inherit(t, s, &mut over);
-    unprovided(t, s, b, &over, rows);
+    // A copy, which no store into the rows can change: its counts are read once.
+    let t = &{ *t };
+    let b = blocking_locks(t);
+    let mut over = [0; 128];
+    provided(t, &mut over);
+    inherit(t, &mut over);
+    unprovided(t, b, &over, &mut rows.low);
 }

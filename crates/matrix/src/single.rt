@@ -8,10 +8,3 @@ pub(crate) fn one(k: usize) -> u64
 {
     1 << k
 }
-
-pub(crate) fn one_lock(k: usize) -> u32
-    requires { k < 32 }
-    ensures { result ≡ 2 ^ k }
-{
-    1 << k
-}

@@ -6,45 +6,31 @@ ghost use Rattle.rules.specs.Races.{race, illegal};
 ghost use Rattle.table.specs.Answers.{shown};
 
 use locks::{blocked, in_set, masked};
-use table::Table;
+use table::{LockKind, Table};
 use tree::{is_ancestor, may_preempt};
 
 // The pair of accesses (i, j) is a race.
 #[tactic(auto, unfolding(rules::specs::Races::race))]
-pub fn is_race(t: Table, s: &[u8], i: usize, j: usize) -> bool
-    requires { (i < 256) × (j < 256) × (t.locks ≤ 32) }
-    ensures { result ≡ race (shown t s.now) i j }
+pub fn is_race(t: &Table<'_>, i: usize, j: usize) -> bool
+    requires { (i < 256) × (j < 256) × (t.now.locks ≤ 32) }
+    ensures { result ≡ race (shown t.now) i j }
 {
-    let x = t.task_of(s, i);
-    let y = t.task_of(s, j);
-    if x == y {
-        return false;
-    }
-    if t.resource_of(s, i) != t.resource_of(s, j) {
-        return false;
-    }
-    if !may_preempt(t, s, y, x) {
-        return false;
-    }
-    let a = t.lock_set(s, i);
-    let b = t.lock_set(s, j);
-    if masked(t, s, a, y) {
-        return false;
-    }
-    !blocked(t, s, a, b)
+    let x = t.task_of(i);
+    let y = t.task_of(j);
+    x != y
+        && t.resource_of(i) == t.resource_of(j)
+        && may_preempt(t, y, x)
+        && !masked(t, t.lock_set(i), y)
+        && !blocked(t, t.lock_set(i), t.lock_set(j))
 }
 
 // Access i and lock k are illegal.
-#[tactic(auto, unfolding(rules::specs::Races::illegal))]
-pub fn is_illegal(t: Table, s: &[u8], i: usize, k: usize) -> bool
+#[tactic(auto, using(table::proofs::KindLaws::blocking_is, table::proofs::KindLaws::blocking_not), unfolding(rules::specs::Races::illegal))]
+pub fn is_illegal(t: &Table<'_>, i: usize, k: usize) -> bool
     requires { (i < 256) × (k < 32) }
-    ensures { result ≡ illegal (shown t s.now) i k }
+    ensures { result ≡ illegal (shown t.now) i k }
 {
-    if !in_set(k, t.lock_set(s, i)) {
-        return false;
-    }
-    if t.lock_kind(s, k) != Table::BLOCKING {
-        return false;
-    }
-    !is_ancestor(t, s, t.provider(s, k), t.task_of(s, i))
+    in_set(k, t.lock_set(i))
+        && matches!(t.lock_kind(k), LockKind::Blocking)
+        && !is_ancestor(t, t.provider(k), t.task_of(i))
 }

@@ -1,15 +1,9 @@
--- What the answer of `thresholds` says, and the buffer that it leaves.
+-- What `thresholds` answers and leaves, once the table has been read.
 -- Assumes nothing.
-use Rattle.std.specs.Prelude.{ℕ, List}
-use Rattle.rules.specs.Calls.{Answer, Value, Refusal, Left}
-use Rattle.table.specs.Answers.{number, place}
-use Rattle.priorities.specs.declared.Numbered.{Numbered}
-use Rattle.priorities.specs.declared.Numbered.TheVariants.{Bytes, Refused}
+use Rattle.std.specs.Prelude.{ℕ, ◌*◌, cond, List}
+use Rattle.rules.specs.Table.{Table}
+use Rattle.rules.specs.Priorities.{has_thresholds, thresholds}
+use Rattle.rules.specs.Calls.{Left, writing, refusing}
 
--- The number of bytes, or the fault's number and place.
-unfoldable pub told : Numbered → Answer
-told (Bytes n) = Value n
-told (Refused f) = Refusal (number f) (place f)
-
-unfoldable pub left : Numbered → List ℕ → Left
-left r out = record { answer = told r; buffer = out }
+unfoldable pub numbered_call : Table → List ℕ → Left
+numbered_call t out = cond (has_thresholds t.tree) (writing (thresholds t.tree) (t.tree.nodes * 2) out) (refusing 13 0 out)

@@ -4,81 +4,55 @@
 mod numbering;
 
 ghost use Rattle.std.specs.Prelude.{◌≡◌, ◌<◌};
-ghost use Rattle.rules.specs.Reading.{Is, read};
 ghost use Rattle.rules.specs.Priorities.{has_thresholds};
 ghost use Rattle.rules.specs.Calls.{thresholds_call};
-ghost use Rattle.table.specs.Answers.{shown};
-ghost use Rattle.priorities.specs.Answers.{left};
+ghost use Rattle.table.specs.Answers.{shown, left};
+ghost use Rattle.priorities.specs.Answers.{numbered_call};
 ghost use Rattle.priorities.specs.Numbering.{may_have};
 
 use crate::numbering::{blank, number_node};
-use table::bytes::wide;
-use table::{Answer, Fault, Table};
-
-#[derive(Clone, Copy)]
-pub enum Numbered {
-    Bytes(usize),
-    Refused(Fault),
-}
+use table::{Checked, Fault, NodeKind, Refusal, Table};
 
 // What thresholds ask of node n: it is not of kind 4, and no scheduler under kind 2 or 3.
-fn may_have(t: Table, s: &[u8], n: usize) -> bool
+fn may_have(t: &Table<'_>, n: usize) -> bool
     requires { n < 256 }
-    ensures { result ≡ may_have (shown t s.now).tree n }
+    ensures { result ≡ may_have (shown t.now).tree n }
 {
-    let k = t.kind(s, n);
-    if k == Table::TIME_SLICED {
-        return false;
+    match t.kind(n) {
+        NodeKind::TimeSliced => false,
+        NodeKind::Task => true,
+        _ => n == 0 || matches!(t.kind(t.parent(n)), NodeKind::Preemptive),
     }
-    if n == 0 {
-        return true;
-    }
-    if k == Table::TASK {
-        return true;
-    }
-    t.kind(s, t.parent(s, n)) == Table::PREEMPTIVE
 }
 
-fn has_thresholds(t: Table, s: &[u8]) -> bool
-    ensures { result ≡ has_thresholds (shown t s.now).tree }
+fn has_thresholds(t: &Table<'_>) -> bool
+    ensures { result ≡ has_thresholds (shown t.now).tree }
 {
-    let count = wide(t.nodes);
-    let mut n = 0;
-    while n < count {
-        if !may_have(t, s, n) {
-            return false;
-        }
-        n += 1;
-    }
-    true
+    (0..usize::from(t.nodes)).all(|n| may_have(t, n))
 }
 
 // The call, once the table has been read.
-fn number(t: Table, s: &[u8], out: &mut [u8]) -> Numbered
-    requires { read s.now ≡ Is (shown t s.now) }
-    ensures { left result out.new ≡ thresholds_call s.now out.old }
+fn number(t: &Checked<'_>, out: &mut [u8]) -> Result<usize, Fault>
+    ensures { left result out.new ≡ numbered_call (shown t.now.table) out.old }
 {
-    let has = has_thresholds(t, s);
-    let count = wide(t.nodes);
+    let has = has_thresholds(&t.table);
+    let count = usize::from(t.table.nodes);
     let need = count * 2;
     let fits = need <= out.len();
     if !has {
-        return Numbered::Refused(Fault::NoThresholds(0));
+        return Err(Refusal::NoThresholds.at(0));
     }
     if !fits {
-        return Numbered::Refused(Fault::Room(need));
+        return Err(Refusal::Room.at(need));
     }
     blank(out, count);
-    number_node(t, s, out, 0, 0);
-    Numbered::Bytes(need)
+    number_node(&t.table, out, 0, 0);
+    Ok(need)
 }
 
-pub fn thresholds(s: &[u8], out: &mut [u8]) -> Numbered
-    ensures { left result out.new ≡ thresholds_call s.now out.old }
+pub fn thresholds(bytes: &[u8], out: &mut [u8]) -> Result<usize, Fault>
+    ensures { left result out.new ≡ thresholds_call bytes.now out.old }
 {
-    let a = Table::read(s);
-    match a {
-        Answer::Read(t) => number(t, s, out),
-        Answer::Refused(f) => Numbered::Refused(f),
-    }
+    let t = Table::read(bytes)?;
+    number(&t, out)
 }

@@ -1,3 +1,4 @@
+pub mod BitList
 pub mod Bits
 pub mod Written
 pub mod Pairs

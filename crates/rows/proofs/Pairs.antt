@@ -2,7 +2,6 @@
 -- Assumes nothing.
 use Prim.Native.Nat.{ℕ, zero, suc, ◌+◌, ◌*◌, ◌-◌, ◌^◌, ◌/◌, ◌%◌, ◌<◌, ◌≤◌}
 use mathlib.Core.Path.{◌≡◌, refl, ap, ◌∙◌, sym}
-use mathlib.Core.Logic.{◌≢◌}
 use mathlib.Core.Bool.{Bool, true, false, ◌&&◌, cond}
 use mathlib.Core.List.{List, [], ◌∷◌, ◌++◌, append_assoc, append-nil}
 use native.Mathlib.Omega.{arith}
@@ -11,15 +10,15 @@ use native.Mathlib.Numerals.{add-one}
 use lib.Dec.{eqb, ltb}
 use lib.ListN.{length, set, length-append, length-set}
 use lib.Seq.{sets, length-sets}
-use lib.Bits.{bit_and}
-use lib.Count.{ones, ones_step, ones-le, count_trailing_zeros, under}
-use borrow.Author.Tests.{eq-eqb, ne_eqb, eqb-true, eqb-false, lt-ltb, le-ltb, ltb-true, ltb-false}
+use lib.Count.{ones, ones_step, ones-le}
+use borrow.Author.Tests.{eqb-true, eqb-false, lt-ltb, le-ltb, ltb-true, ltb-false}
 use Rattle.rules.specs.Bounded.{Pair, row, bytes_of}
 use Rattle.rules.specs.Locks.{in_set}
 use Rattle.rules.proofs.FewPairs.{bytes_length}
 use Rattle.rows.specs.Rows.{Row, in_row}
+use Rattle.rows.specs.Bits.{bits_from, set_bits}
 use Rattle.rows.specs.Writing.{Wrote, row_of, bit_pairs}
-use Rattle.rows.proofs.Bits.{has_low, has_half, clear_odd, clear_even}
+use Rattle.rows.proofs.Bits.{has_low, has_half}
 use Rattle.rows.proofs.Written.{sets_append}
 
 pub no_pairs : (d i j : ℕ) → bit_pairs d i j 0 ≡ []
@@ -27,37 +26,34 @@ unfolding bit_pairs
 no_pairs zero i j = refl
 no_pairs (suc d) i j = no_pairs d i (j + 1)
 
-not_odd : {m : ℕ} → m ≡ 0 → m ≢ 1
-not_odd e o = omega arith
+-- The pairs of i with the numbers j + z.
+unfoldable pairs_with : ℕ → ℕ → List ℕ → List ℕ
+pairs_with i j [] = []
+pairs_with i j (z ∷ zs) = i ∷ (j + z) ∷ pairs_with i j zs
 
--- The pair of the lowest bit comes first.
-pub record First (d i j x z : ℕ) : Type 0 where
-  pub inside : z < d
-  pub eq : bit_pairs d i j x ≡ i ∷ (j + z) ∷ bit_pairs d i j (bit_and x (x - 1))
-
-first_here : (d i j x : ℕ) → x % 2 ≡ 1 → First (suc d) i j x 0
-unfolding bit_pairs
-first_here d i j x e =
-    let a : j + 0 ≡ j = omega arith in
-    let q = clear_odd x e in
-    record { inside = omega arith; eq = rw (eq-eqb (x % 2) 1 e, a, q.0, q.1) }
-
-first_there : (d i j x z : ℕ) → x % 2 ≡ 0 → x ≢ 0 → First d i (j + 1) (x / 2) z → First (suc d) i j x (suc z)
-unfolding bit_pairs
-first_there d i j x z e n l =
-    let a : j + suc z ≡ j + 1 + z = omega arith in
-    let q = clear_even x e n in
-    record { inside = omega (arith, l.inside); eq = rw (ne_eqb (x % 2) 1 (not_odd e), l.eq, a, q.0, q.1) }
-
-pub first : (d i j x : ℕ) → x < 2 ^ d → x ≢ 0 → First d i j x (count_trailing_zeros d x)
-unfolding count_trailing_zeros
-first zero i j x b n = absurd (n (omega arith))
-first (suc d) i j x b n = side (x % 2) refl (λ z. first d i (j + 1) (x / 2) (omega (arith, pow-suc 2 d)) z)
+of_numbers : (d i j k x : ℕ) → bit_pairs d i (j + k) x ≡ pairs_with i j (bits_from d k x)
+unfolding bit_pairs bits_from pairs_with
+of_numbers zero i j k x = refl
+of_numbers (suc d) i j k x = let e : j + k + 1 ≡ j + (k + 1) = omega arith in rw e (side (eqb (x % 2) 1) (of_numbers d i j (k + 1) (x / 2)))
   where
-    side : (m : ℕ) → x % 2 ≡ m → (x / 2 ≢ 0 → First d i (j + 1) (x / 2) (count_trailing_zeros d (x / 2)))
-        → First (suc d) i j x (under m (count_trailing_zeros d (x / 2)))
-    side zero e f = first_there d i j x (count_trailing_zeros d (x / 2)) e n (f (λ z. n (omega arith)))
-    side (suc m) e f = first_here d i j x (omega arith)
+    side : (b : Bool) → bit_pairs d i (j + (k + 1)) (x / 2) ≡ pairs_with i j (bits_from d (k + 1) (x / 2))
+        → cond b (i ∷ (j + k) ∷ bit_pairs d i (j + (k + 1)) (x / 2)) (bit_pairs d i (j + (k + 1)) (x / 2))
+        ≡ pairs_with i j (cond b (k ∷ bits_from d (k + 1) (x / 2)) (bits_from d (k + 1) (x / 2)))
+    side true r = ap (λ (l : List ℕ). i ∷ (j + k) ∷ l) r
+    side false r = r
+
+of_word : (i j x : ℕ) → bit_pairs 64 i j x ≡ pairs_with i j (set_bits x)
+unfolding set_bits
+of_word i j x = let z : j + 0 ≡ j = omega arith in rw z at (of_numbers 64 i j 0 x)
+
+-- The pair of the first number comes first.
+pub first_pair : (i j x z y : ℕ) → set_bits x ≡ z ∷ set_bits y → bit_pairs 64 i j x ≡ i ∷ (j + z) ∷ bit_pairs 64 i j y
+unfolding pairs_with
+first_pair i j x z y e = of_word i j x ∙ ap (pairs_with i j) e ∙ ap (λ (l : List ℕ). i ∷ (j + z) ∷ l) (sym (of_word i j y))
+
+pub last_pair : (i j x : ℕ) → set_bits x ≡ [] → bit_pairs 64 i j x ≡ []
+unfolding pairs_with
+last_pair i j x e = of_word i j x ∙ ap (pairs_with i j) e
 
 -- Two bytes a bit.
 pub counted : (d i j x : ℕ) → x < 2 ^ d → length (bit_pairs d i j x) ≡ 2 * ones x
@@ -97,6 +93,11 @@ writes_pair {l₀} {k₀} {vs} {l} {k} {ws} {x} {y} {us} f e =
       bytes = two_stores l k x y us ∙ ap (sets l k) (sym e) ∙ f.bytes;
       place = omega (arith, f.place, ap length e);
     }
+
+-- While a bit is left, there is room for its pair.
+pub room_for_pair : (i j x z y : ℕ) {l₀ : List ℕ} {k₀ : ℕ} {vs l : List ℕ} {k : ℕ} → StillWrites l₀ k₀ vs l k (bit_pairs 64 i j x) → set_bits x ≡ z ∷ set_bits y
+    → k₀ + length vs ≤ length l₀ → k + 2 ≤ length l
+room_for_pair i j x z y {l₀} {k₀} {vs} {l} {k} f e h = omega (arith, f.place, f.sized, ap length (first_pair i j x z y e))
 
 pub writes_piece : {l₀ : List ℕ} {k₀ : ℕ} {vs l : List ℕ} {k : ℕ} {ws xs ys m : List ℕ} {r : ℕ} → StillWrites l₀ k₀ vs l k ws
     → ws ≡ xs ++ ys → Wrote l k xs m r → StillWrites l₀ k₀ vs m r ys

@@ -113,21 +113,25 @@ pub record Chunk (d i j x z l : ℕ) : Type 0 where
   pub eq : bit_pairs d i j x ≡ run_pairs i (j + z) l ++ bit_pairs (d - (z + l)) i (j + z + l) (x / 2 ^ z / 2 ^ (l - 1) / 2)
   pub bound : x / 2 ^ z / 2 ^ (l - 1) / 2 < 2 ^ (d - (z + l))
 
-pub chunk : (d i j x z l : ℕ) → x < 2 ^ d → z ≡ count_trailing_zeros 64 x → l ≡ count_trailing_zeros 64 (2 ^ 64 - 1 - x / 2 ^ z) → d ≤ 64 → x ≢ 0
-    → Chunk d i j x z l
-chunk d i j x z l b e f h n =
-    let q : Zeros d i j x z = rw e (zeros 64 d i j x h b n) in
-    let m : d - z + z ≡ d = omega (arith, q.inside) in
-    let y : x / 2 ^ z < 2 ^ (d - z) = shr_lt (d - z) z (rw m b) in
-    let r : Run (d - z) i (j + z) (x / 2 ^ z) l = rw f (runs 64 (d - z) i (j + z) (x / 2 ^ z) (omega arith) y) in
-    let p = r.some q.odd in
-    let k : l - 1 + 1 ≡ l = omega arith in
-    let g : x / 2 ^ z / 2 ^ (l - 1) / 2 ≡ x / 2 ^ z / 2 ^ l = rw k at (shr-shr (x / 2 ^ z) (l - 1) 1) in
-    let o : d - z - l ≡ d - (z + l) = omega arith in
-    let v : d - (z + l) + l ≡ d - z = omega (arith, q.inside, r.inside) in
-    record {
-      some = p;
-      inside = omega (arith, q.inside, r.inside);
-      eq = q.eq ∙ rw g (rw o at r.eq);
-      bound = rw g (shr_lt (d - (z + l)) l (rw v y));
-    }
+pub chunk :
+    (d i j x : ℕ) → x < 2 ^ d → d ≤ 64 → x ≢ 0
+    → Chunk d i j x (count_trailing_zeros 64 x) (count_trailing_zeros 64 (2 ^ 64 - 1 - x / 2 ^ count_trailing_zeros 64 x))
+chunk d i j x b h n = from_start _ _ refl refl
+  where
+    from_start : (z l : ℕ) → z ≡ count_trailing_zeros 64 x → l ≡ count_trailing_zeros 64 (2 ^ 64 - 1 - x / 2 ^ z) → Chunk d i j x z l
+    from_start z l e f =
+        let q : Zeros d i j x z = rw e (zeros 64 d i j x h b n) in
+        let m : d - z + z ≡ d = omega (arith, q.inside) in
+        let y : x / 2 ^ z < 2 ^ (d - z) = shr_lt (d - z) z (rw m b) in
+        let r : Run (d - z) i (j + z) (x / 2 ^ z) l = rw f (runs 64 (d - z) i (j + z) (x / 2 ^ z) (omega arith) y) in
+        let p = r.some q.odd in
+        let k : l - 1 + 1 ≡ l = omega arith in
+        let g : x / 2 ^ z / 2 ^ (l - 1) / 2 ≡ x / 2 ^ z / 2 ^ l = rw k at (shr-shr (x / 2 ^ z) (l - 1) 1) in
+        let o : d - z - l ≡ d - (z + l) = omega arith in
+        let v : d - (z + l) + l ≡ d - z = omega (arith, q.inside, r.inside) in
+        record {
+          some = p;
+          inside = omega (arith, q.inside, r.inside);
+          eq = q.eq ∙ rw g (rw o at r.eq);
+          bound = rw g (shr_lt (d - (z + l)) l (rw v y));
+        }

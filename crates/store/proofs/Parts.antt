@@ -7,8 +7,8 @@ use mathlib.Core.Logic.{◌⊎◌, inl, inr}
 use mathlib.Core.List.{List, [], ◌∷◌, ◌++◌}
 use native.Mathlib.Decide.{dec_lt}
 use native.Mathlib.Omega.{arith}
-use lib.ListN.{length, get_or, set, drop, length-drop, length-append}
-use lib.Seq.{sets, length-sets, length-take-le, get_or-take, get_or-drop, get_or-set_same, get_or-set_other, lt-length-set, drop-cons, ext_get_or}
+use lib.ListN.{length, get_or, set, take, drop, length-drop, length-append}
+use lib.Seq.{sets, take-length, length-sets, length-take-le, get_or-take, get_or-drop, get_or-set_same, get_or-set_other, lt-length-set, ext_get_or}
 use Rattle.rows.specs.Writing.{Wrote}
 use Rattle.rows.proofs.Written.{sets_append}
 use Rattle.store.specs.Parts.{part}
@@ -68,36 +68,13 @@ part_before vs l k a n h b =
     let q : length (part a n l) ≡ n = length_part a n l (omega arith) in
     ext_get_or 0 _ _ (p ∙ sym q) (λ i c. part_at a n i (sets l k vs) (omega arith) ∙ outside vs l k (a + i) (inl (omega arith)) ∙ sym (part_at a n i l (omega arith)))
 
--- Eight bytes, one by one.
-part_first : (k d n : ℕ) (l : List ℕ) → k + d < length l → part (k + d) (suc n) l ≡ get_or l (k + d) 0 ∷ part (k + (d + 1)) n l
-unfolding part
-part_first k d n l h =
-    let z : k + (d + 1) ≡ suc (k + d) = omega arith in
-    rw (z, drop-cons l (k + d) 0 h)
-
-pub eight_stores : (from l : List ℕ) (a k : ℕ) → a + 8 ≤ length from
-    → set (set (set (set (set (set (set (set l k (get_or from a 0)) (k + 1) (get_or from (a + 1) 0)) (k + 2) (get_or from (a + 2) 0)) (k + 3) (get_or from (a + 3) 0)) (k + 4) (get_or from (a + 4) 0)) (k + 5) (get_or from (a + 5) 0)) (k + 6) (get_or from (a + 6) 0)) (k + 7) (get_or from (a + 7) 0)
-    ≡ sets l k (part a 8 from)
-eight_stores from l a k h =
-    let z : a + 0 ≡ a = omega arith in
-    let e : part a 8 from ≡ get_or from a 0 ∷ get_or from (a + 1) 0 ∷ get_or from (a + 2) 0 ∷ get_or from (a + 3) 0 ∷ get_or from (a + 4) 0 ∷ get_or from (a + 5) 0 ∷ get_or from (a + 6) 0 ∷ get_or from (a + 7) 0 ∷ part (a + 8) 0 from =
-    rw z at (part_first a 0 7 from (omega arith))
-    ∙ ap (λ (r : List ℕ). get_or from a 0 ∷ r) (part_first a 1 6 from (omega arith)
-    ∙ ap (λ (r : List ℕ). get_or from (a + 1) 0 ∷ r) (part_first a 2 5 from (omega arith)
-    ∙ ap (λ (r : List ℕ). get_or from (a + 2) 0 ∷ r) (part_first a 3 4 from (omega arith)
-    ∙ ap (λ (r : List ℕ). get_or from (a + 3) 0 ∷ r) (part_first a 4 3 from (omega arith)
-    ∙ ap (λ (r : List ℕ). get_or from (a + 4) 0 ∷ r) (part_first a 5 2 from (omega arith)
-    ∙ ap (λ (r : List ℕ). get_or from (a + 5) 0 ∷ r) (part_first a 6 1 from (omega arith)
-    ∙ ap (λ (r : List ℕ). get_or from (a + 6) 0 ∷ r) (part_first a 7 0 from (omega arith)))))))) in
-    let f : part (a + 8) 0 from ≡ [] = (unfold part in refl) in
-    let k1 : k + 1 ≡ suc k = omega arith in
-    let k2 : k + 2 ≡ suc (suc k) = omega arith in
-    let k3 : k + 3 ≡ suc (suc (suc k)) = omega arith in
-    let k4 : k + 4 ≡ suc (suc (suc (suc k))) = omega arith in
-    let k5 : k + 5 ≡ suc (suc (suc (suc (suc k)))) = omega arith in
-    let k6 : k + 6 ≡ suc (suc (suc (suc (suc (suc k))))) = omega arith in
-    let k7 : k + 7 ≡ suc (suc (suc (suc (suc (suc (suc k)))))) = omega arith in
-    rw (k1, k2, k3, k4, k5, k6, k7, e, f)
+-- Bytes that were read one by one from a on.
+pub part_read : (from eight : List ℕ) (a w i : ℕ) → i ≡ w → length eight ≡ w → a + w ≤ length from → ((j : ℕ) → j < i → get_or eight j 0 ≡ get_or from (a + j) 0)
+    → take i eight ≡ part a w from
+part_read from eight a w i e n h f =
+    let z : length (part a w from) ≡ w = length_part a w from h in
+    let t : take i eight ≡ eight = rw (e, ← n) (take-length eight) in
+    t ∙ ext_get_or 0 _ _ (n ∙ sym z) (λ j b. f j (omega arith) ∙ sym (part_at a w j from (omega arith)))
 
 -- A line: the tail's eight bytes, and then the head's first, middle and last eight, over what does not belong to the line.
 module _
@@ -176,8 +153,8 @@ module _
       let z : length (part 0 h head) ≡ h = length_part 0 h head (omega arith) in
       w ∙ sym (rw z at (sets_append (part 0 h head) (part (at + 8 - n) n tails) l k))
 
-  pub line_wrote : Wrote l k (part 0 h head ++ part (at + 8 - n) n tails) m₄ (k + h + n)
-  line_wrote =
-      let a : length (part 0 h head) ≡ h = length_part 0 h head (omega arith) in
+  pub line_wrote : h ≡ length head → Wrote l k (head ++ part (at + 8 - n) n tails) m₄ (k + h + n)
+  line_wrote e =
+      let w : part 0 h head ≡ head = (unfold part in rw e (take-length head)) in
       let b : length (part (at + 8 - n) n tails) ≡ n = length_part (at + 8 - n) n tails (omega arith) in
-      record { bytes = line_stored; place = rw (length-append, a, b) (omega arith) }
+      record { bytes = rw w at line_stored; place = rw (length-append, b) (omega arith) }

@@ -3,7 +3,6 @@
 use Prim.Native.Nat.{ℕ, ◌≤◌, ◌<◌}
 use mathlib.Core.Path.{◌≡◌}
 use mathlib.Core.Logic.{◌≢◌}
-use mathlib.Core.List.{List}
 use native.Mathlib.Omega.{arith}
 use lib.Dec.{ltb}
 use borrow.Author.Tests.{ltb-true, eqb-false}
@@ -24,7 +23,7 @@ scheduler_at t n e = (
   eqb-false _ _ (not_true _ (and_right (ltb n t.nodes) _ e)),
 )
 
-module _ (t : Table) (b : List ℕ) (ok : Accepted (shown t b)) where
+module _ (t : Table) (ok : Accepted (shown t)) where
   pub few_nodes : t.nodes ≤ 128
   few_nodes = rw nodes_shown at ok.tree.few
 
@@ -34,19 +33,19 @@ module _ (t : Table) (b : List ℕ) (ok : Accepted (shown t b)) where
   pub few_locks_lem : t.locks ≤ 32
   few_locks_lem = rw locks_shown at ok.few_locks
 
-  pub task_low : (i : ℕ) → i < t.accesses → (shown t b).task_of i < t.nodes
-  task_low i h = rw nodes_shown at (task_at (shown t b).tree ((shown t b).task_of i) (ok.tasks i (rw accesses_shown h))).0
+  pub task_low : (i : ℕ) → i < t.accesses → (shown t).task_of i < t.nodes
+  task_low i h = rw nodes_shown at (task_at (shown t).tree ((shown t).task_of i) (ok.tasks i (rw accesses_shown h))).0
 
-  pub resource_low : (i : ℕ) → i < t.accesses → (shown t b).resource_of i < 64
+  pub resource_low : (i : ℕ) → i < t.accesses → (shown t).resource_of i < 64
   resource_low i h = omega (arith, ok.known i (rw accesses_shown h), ok.few_resources)
 
-  pub parent_low : (c : ℕ) → 0 < c → c < t.nodes → (shown t b).tree.parent c < c
+  pub parent_low : (c : ℕ) → 0 < c → c < t.nodes → (shown t).tree.parent c < c
   parent_low c z h = ok.tree.lower c (rw nodes_shown h) (omega arith)
 
-  pub covered_low : (k : ℕ) → k < t.locks → (shown t b).lock_kind k ≡ mask → (shown t b).covered k < 128
+  pub covered_low : (k : ℕ) → k < t.locks → (shown t).lock_kind k ≡ mask → (shown t).covered k < 128
   covered_low k h e =
-      omega (arith, few_nodes, rw nodes_shown at (child_at (shown t b).tree ((shown t b).provider k) ((shown t b).covered k) (ok.masks k (rw locks_shown h) e)).0)
+      omega (arith, few_nodes, rw nodes_shown at (child_at (shown t).tree ((shown t).provider k) ((shown t).covered k) (ok.masks k (rw locks_shown h) e)).0)
 
-  pub provider_low : (k : ℕ) → k < t.locks → (shown t b).provider k < 128
+  pub provider_low : (k : ℕ) → k < t.locks → (shown t).provider k < 128
   provider_low k h =
-      omega (arith, few_nodes, rw nodes_shown at (scheduler_at (shown t b).tree ((shown t b).provider k) (ok.providers k (rw locks_shown h))).0)
+      omega (arith, few_nodes, rw nodes_shown at (scheduler_at (shown t).tree ((shown t).provider k) (ok.providers k (rw locks_shown h))).0)

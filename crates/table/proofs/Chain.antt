@@ -1,67 +1,56 @@
--- The reader's chain: a section that passes hands its own table on, one that is refused ends the reading. So what is told of the sections
--- from one on is told of the whole, and with the counts that stand in the bytes the whole is `read`.
+-- The reader's chain: the sections before the first fault pass, and that fault is the bytes'; where all pass, the table is the one that stands in them.
 -- Assumes nothing.
 use Prim.Native.Nat.{ℕ}
-use mathlib.Core.Path.{◌≡◌, refl, sym, ◌∙◌, ap}
+use mathlib.Core.Path.{◌≡◌, ◌∙◌, ap}
 use mathlib.Core.List.{List}
+use denote.Bor.{Bor}
+use Rattle.std.specs.Prelude.{Ok, Err}
 use Rattle.rules.specs.Reading as reading
-use Rattle.rules.specs.Reading.{Counts, table_of, counts_of, counts_in, ◌and_then◌, concluded, Is, read, first_fault, form_section, node_section, lock_section, resource_section, access_section, end_section}
+use Rattle.rules.specs.Reading.{Is, Refused, read, first_fault, table_of, concluded, counts_of, ◌and_then◌, form_section, node_section, lock_section, resource_section, access_section, end_section}
+use Rattle.rules.specs.Accepted.{Accepted}
+use Rattle.table.proofs.Told.{told_accepted, told_stands}
 use Rattle.table.specs.declared.Table.{Table}
-use Rattle.table.specs.declared.Fault.{Fault}
-use Rattle.table.specs.declared.Answer.{Answer}
-use Rattle.table.specs.declared.Answer.TheVariants.{Read, Refused}
-use Rattle.table.specs.Answers.{counts, shown, told, number, place}
-use Rattle.table.proofs.Shown.{counts_shown}
+use Rattle.table.specs.declared.refusals.Fault.{Fault}
+use Rattle.table.specs.Answers.{counts, shown, number, checked, Stands}
+use Rattle.table.proofs.SectionLaws.{found, passes}
 
--- The sections from one on, of the table t in the bytes b.
-unfoldable pub from_end : List ℕ → Table → reading.Check
-from_end b t = end_section (counts t) b
+-- What follows a section.
+module _ (k : reading.Check) where
+  pub after : (u : Unit {0}) (m rest : reading.Check) → checked (Ok u) ≡ k → m ≡ rest → m ≡ (k and_then rest)
+  unfolding ◌and_then◌
+  after u m rest e q = rw (passes k u e, q)
 
-unfoldable pub from_accesses : List ℕ → Table → reading.Check
-from_accesses b t = access_section (counts t) b and_then from_end b t
+  pub ends : (f : Fault) (rest : reading.Check) → checked (Err f) ≡ k → checked (Err f) ≡ (k and_then rest)
+  unfolding checked ◌and_then◌
+  ends f rest e = rw (found k f e)
 
-unfoldable pub from_resources : List ℕ → Table → reading.Check
-from_resources b t = resource_section (counts t) b and_then from_accesses b t
+-- What the sections of a table find in its bytes, in their order.
+abbrev pub sections : Table → reading.Check
+sections t =
+    form_section t.bytes.now
+    and_then node_section (counts t) t.bytes.now
+    and_then lock_section (counts t) t.bytes.now
+    and_then resource_section (counts t) t.bytes.now
+    and_then access_section (counts t) t.bytes.now
+    and_then end_section (counts t) t.bytes.now
 
-unfoldable pub from_locks : List ℕ → Table → reading.Check
-from_locks b t = lock_section (counts t) b and_then from_resources b t
+-- With the counts that stand in the bytes this is what reading them finds.
+module _ (s : Bor (List ℕ)) (t : Table) (e : (counts t ≡ counts_of s.now) × (t.bytes ≡ s)) where
+  same : concluded (sections t) (shown t) ≡ read s.now
+  unfolding read first_fault table_of shown
+  same = rw (e.1, e.0)
 
-unfoldable pub from_nodes : List ℕ → Table → reading.Check
-from_nodes b t = node_section (counts t) b and_then from_locks b t
+  pub refused : (f : Fault) → checked (Err f) ≡ sections t → Refused (number f) f.place ≡ read s.now
+  unfolding checked concluded
+  refused f h = ap (λ k. concluded k (shown t)) h ∙ same
 
--- Two structs that show the same table are the same.
-pub shown_same : (b : List ℕ) (t u : Table) → shown t b ≡ shown u b → t ≡ u
-shown_same b t u e = ap struct (sym (counts_shown t b) ∙ ap counts_in e ∙ counts_shown u b)
-  where
-    struct : Counts → Table
-    struct c = record { nodes = c.nodes; locks = c.locks; resources = c.resources; accesses = c.accesses }
+  pub is_read : (u : Unit {0}) → checked (Ok u) ≡ sections t → Is (shown t) ≡ read s.now
+  unfolding checked concluded
+  is_read u h = ap (λ k. concluded k (shown t)) h ∙ same
 
-module _ (b : List ℕ) (a : Answer) (t : Table) (k : reading.Check) (e : told b a ≡ concluded k (shown t b)) where
-  -- A section that passes: what is told from the next one on is told from this one on.
-  pub next :
-      (u : Table) (r : Answer) (rest : Table → reading.Check) → a ≡ Read u → told b r ≡ concluded (rest u) (shown u b)
-      → told b r ≡ concluded (k and_then rest t) (shown t b)
-  unfolding told concluded ◌and_then◌
-  next u r rest q h = side k (sym (ap (told b) q) ∙ e)
-    where
-      side : (k : reading.Check) → Is (shown u b) ≡ concluded k (shown t b) → told b r ≡ concluded (k and_then rest t) (shown t b)
-      side reading.Fine z =
-          let w : Is (shown u b) ≡ Is (shown t b) = (unfold concluded in z) in
-          let v : shown u b ≡ shown t b = cc in
-          (unfold ◌and_then◌ in rw (← shown_same b u t v) h)
-      side (reading.Fault n p) z = let w : Is (shown u b) ≡ reading.Refused n p = (unfold concluded in z) in (unfold concluded ◌and_then◌ in cc)
+  -- So the table is one to be handed out.
+  pub kept : read s.now ≡ Is (shown t) → Accepted (shown t)
+  kept q = told_accepted t s.now q
 
-  -- A section that is refused.
-  pub stop : (f : Fault) (rest : reading.Check) → a ≡ Refused f → told b a ≡ concluded (k and_then rest) (shown t b)
-  unfolding told concluded ◌and_then◌
-  stop f rest q = e ∙ side k (sym (ap (told b) q) ∙ e)
-    where
-      side : (k : reading.Check) → reading.Refused (number f) (place f) ≡ concluded k (shown t b)
-          → concluded k (shown t b) ≡ concluded (k and_then rest) (shown t b)
-      side reading.Fine z = let w : reading.Refused (number f) (place f) ≡ Is (shown t b) = (unfold concluded in z) in (unfold concluded ◌and_then◌ in cc)
-      side (reading.Fault n p) z = (unfold concluded ◌and_then◌ in refl)
-
--- All sections, of the counts that stand in the bytes.
-pub whole : (b : List ℕ) (t : Table) (r : Answer) → counts t ≡ counts_of b → told b r ≡ concluded (form_section b and_then from_nodes b t) (shown t b) → told b r ≡ read b
-unfolding read first_fault table_of shown from_nodes from_locks from_resources from_accesses from_end
-whole b t r e h = rw e at h
+  pub whole : read s.now ≡ Is (shown t) → Stands t
+  whole q = told_stands t (ap (λ (x : Bor (List ℕ)). read x.now) e.1 ∙ q)

@@ -1,11 +1,15 @@
-pub mod SetBits
-pub mod Shown
-pub mod FormLaws
-pub mod SectionLaws
-pub mod Chain
-pub mod Told
-pub mod Faults
-pub mod Unique
-pub mod UniqueFields
-pub mod UniqueRecords
 pub mod Bounds
+mod Chain
+pub mod Faults
+mod FormLaws
+pub mod KindLaws
+pub mod Lefts
+pub mod Results
+mod RightLaws
+mod SectionLaws
+mod SetBits
+pub mod Shown
+pub mod Told
+mod Unique
+mod UniqueFields
+mod UniqueRecords

@@ -2,32 +2,29 @@
 -- stops it, a record stops it after those before it passed, or all pass.
 -- Assumes nothing.
 use Prim.Native.Nat.{ℕ, zero, suc, ◌+◌, ◌*◌, ◌≤◌, ◌<◌}
-use mathlib.Core.Path.{◌≡◌, refl, sym, ◌∙◌, ap}
+use mathlib.Core.Path.{◌≡◌, refl, sym, ap}
 use mathlib.Core.List.{List}
 use native.Mathlib.Decide.{ℕ_discrete, dec_le}
 use native.Mathlib.Numerals.{add-one}
 use native.Mathlib.Omega.{arith}
 use lib.ListN.{length}
 use borrow.Author.Tests.{le-leb, lt-leb}
+use Rattle.std.specs.Prelude.{Ok, Err}
 use Rattle.rules.specs.Reading as reading
-use Rattle.rules.specs.Reading.{Counts, byte, nodes_at, locks_at, resources_at, accesses_at, max_resources, counts_of, ◌and_then◌, each, due, unless, count_check, resource_check, resource_section, concluded, Is}
+use Rattle.rules.specs.Reading.{Counts, byte, nodes_at, locks_at, resources_at, accesses_at, max_resources, counts_of, ◌and_then◌, each, due, unless, count_check, resource_check, resource_section}
 use Rattle.rules.proofs.Reading.{then_left, due_fine}
-use Rattle.rules.specs.Table as rules
-use Rattle.table.specs.declared.Fault.{Fault}
-use Rattle.table.specs.declared.Fault.TheVariants.{Short}
-use Rattle.table.specs.declared.Answer.TheVariants.{Refused}
-use Rattle.table.specs.declared.Check.{Check}
-use Rattle.table.specs.declared.Check.TheVariants.{Fine, Bad}
-use Rattle.table.specs.Answers.{number, place, checked, told}
+use Rattle.table.specs.declared.refusals.Fault.{Fault}
+use Rattle.table.specs.Answers.{number, checked}
 
 -- The check that a code's answer stands for.
-pub found : (r : Check) (f : Fault) (k : reading.Check) → checked r ≡ k → r ≡ Bad f → k ≡ reading.Fault (number f) (place f)
-unfolding checked
-found r f k e q = sym e ∙ ap checked q
+module _ (k : reading.Check) where
+  pub found : (f : Fault) → checked (Err f) ≡ k → k ≡ reading.Fault (number f) f.place
+  unfolding checked
+  found f e = sym e
 
-pub passes : (r : Check) (k : reading.Check) → checked r ≡ k → r ≡ Fine → k ≡ reading.Fine
-unfolding checked
-passes r k e q = sym e ∙ ap checked q
+  pub passes : (u : Unit {0}) → checked (Ok u) ≡ k → k ≡ reading.Fine
+  unfolding checked
+  passes u e = sym e
 
 -- A fault among the records before i, or at i, is the first of them all.
 each_stops : (n i m p : ℕ) (f : ℕ → reading.Check) → i < n → each i f ≡ reading.Fine → f i ≡ reading.Fault m p → each n f ≡ reading.Fault m p
@@ -47,23 +44,21 @@ pub each_none : (f : ℕ → reading.Check) → each 0 f ≡ reading.Fine
 unfolding each
 each_none f = refl
 
--- What the code answers for a section of the count's check k and n records f, about the bytes b.
-module _ (b : List ℕ) (k : reading.Check) (n : ℕ) (f : ℕ → reading.Check) (t : rules.Table) where
-  pub count_stops : (r : Check) (x : Fault) → checked r ≡ k → r ≡ Bad x → told b (Refused x) ≡ concluded (k and_then each n f) t
-  unfolding told concluded ◌and_then◌
-  count_stops r x e q = rw (found r x k e q)
+-- What the code answers for a section of the count's check k and n records f.
+module _ (k : reading.Check) (n : ℕ) (f : ℕ → reading.Check) where
+  pub count_stops : (x : Fault) → checked (Err x) ≡ k → checked (Err x) ≡ (k and_then each n f)
+  unfolding checked ◌and_then◌
+  count_stops x e = rw (← e)
 
   pub record_stops :
-      (i : ℕ) (c r : Check) (x : Fault) → checked c ≡ k → c ≡ Fine → i < n → each i f ≡ reading.Fine → checked r ≡ f i → r ≡ Bad x
-      → told b (Refused x) ≡ concluded (k and_then each n f) t
-  unfolding told concluded ◌and_then◌
-  record_stops i c r x e q h p d z = rw (passes c k e q, each_stops n i (number x) (place x) f h p (found r x (f i) d z))
+      (i : ℕ) (u : Unit {0}) (x : Fault) → checked (Ok u) ≡ k → i < n → each i f ≡ reading.Fine → checked (Err x) ≡ f i
+      → checked (Err x) ≡ (k and_then each n f)
+  unfolding checked ◌and_then◌
+  record_stops i u x e h p d = rw (passes k u e, each_stops n i (number x) x.place f h p (found (f i) x d))
 
-pub all_pass :
-    (k : reading.Check) (n : ℕ) (f : ℕ → reading.Check) (t : rules.Table) (c : Check)
-    → checked c ≡ k → c ≡ Fine → each n f ≡ reading.Fine → Is t ≡ concluded (k and_then each n f) t
-unfolding concluded ◌and_then◌
-all_pass k n f t c e q p = rw (passes c k e q, p)
+  pub all_pass : (u v : Unit {0}) → checked (Ok u) ≡ k → each n f ≡ reading.Fine → checked (Ok v) ≡ (k and_then each n f)
+  unfolding checked ◌and_then◌
+  all_pass u v e p = rw (passes k u e, p)
 
 -- Records of two bytes with no field to test are complete when the last one is.
 pub each_due : (b : List ℕ) (from n : ℕ) → from ≤ length b → each n (λ r. due b (from + r * 2 + 2)) ≡ due b (from + n * 2)
@@ -84,18 +79,16 @@ unfolding counts_of
 counts_are b n k r a en ek er ea = rw (← en, ← ek, ← er, ← ea)
 
 -- The resources' section, by its last record.
-module _ (b : List ℕ) (c : Counts) (t : rules.Table) (r : Check)
-    (e : checked r ≡ count_check b (resources_at c.nodes c.locks) 0 max_resources) (q : r ≡ Fine) where
+module _ (b : List ℕ) (c : Counts) (u : Unit {0}) (e : checked (Ok u) ≡ count_check b (resources_at c.nodes c.locks) 0 max_resources) where
   resources_due : each c.resources (resource_check c b) ≡ due b (accesses_at c.nodes c.locks c.resources)
   unfolding resource_check count_check
   resources_due =
-      each_due b (resources_at c.nodes c.locks + 1) c.resources (due_fine b _ (then_left _ _ (passes r _ e q)))
+      each_due b (resources_at c.nodes c.locks + 1) c.resources (due_fine b _ (then_left _ _ (passes _ u e)))
 
-  pub resources_short :
-      length b < accesses_at c.nodes c.locks c.resources → told b (Refused (Short (length b))) ≡ concluded (resource_section c b) t
-  unfolding resource_section told concluded number place
-  resources_short h = rw (passes r _ e q, resources_due) (unfold due unless ◌and_then◌ in rw (lt-leb _ _ h))
+  pub resources_short : length b < accesses_at c.nodes c.locks c.resources → reading.Fault 1 (length b) ≡ resource_section c b
+  unfolding resource_section
+  resources_short h = rw (passes _ u e, resources_due) (unfold due unless ◌and_then◌ in rw (lt-leb _ _ h))
 
-  pub resources_pass : accesses_at c.nodes c.locks c.resources ≤ length b → Is t ≡ concluded (resource_section c b) t
-  unfolding resource_section concluded
-  resources_pass h = rw (passes r _ e q, resources_due) (unfold due unless ◌and_then◌ in rw (le-leb _ _ h))
+  pub resources_pass : accesses_at c.nodes c.locks c.resources ≤ length b → reading.Fine ≡ resource_section c b
+  unfolding resource_section
+  resources_pass h = rw (passes _ u e, resources_due) (unfold due unless ◌and_then◌ in rw (le-leb _ _ h))

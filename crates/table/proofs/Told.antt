@@ -1,30 +1,33 @@
 -- What a caller learns from the reader's answer about the bytes b.
 -- Assumes nothing.
 use Prim.Native.Nat.{ℕ}
-use mathlib.Core.Path.{◌≡◌, sym, ◌∙◌, ap}
+use mathlib.Core.Path.{◌≡◌, sym}
 use mathlib.Core.List.{List}
+use Rattle.std.specs.Prelude.{Ok, Err}
 use Rattle.rules.specs.Reading as reading
 use Rattle.rules.specs.Reading.{read, Is, counts_in, table_at}
 use Rattle.rules.specs.Accepted.{Accepted}
 use Rattle.rules.proofs.Accepted.{accepted, stands}
 use Rattle.table.specs.declared.Table.{Table}
-use Rattle.table.specs.declared.Fault.{Fault}
-use Rattle.table.specs.declared.Answer.{Answer}
-use Rattle.table.specs.declared.Answer.TheVariants.{Read, Refused}
-use Rattle.table.specs.Answers.{shown, told, number, place, Stands}
+use Rattle.table.specs.declared.checked.Checked.{Checked}
+use Rattle.table.specs.declared.refusals.Fault.{Fault}
+use Rattle.table.specs.Answers.{shown, number, Stands}
+use Rattle.table.specs.Read.{told}
 
-module _ (b : List ℕ) (a : Answer) (e : told b a ≡ read b) where
-  pub told_table : (t : Table) → a ≡ Read t → read b ≡ Is (shown t b)
+module _ (b : List ℕ) where
+  pub told_table : (t : Checked) → told (Ok t) ≡ read b → read b ≡ Is (shown t.table)
   unfolding told
-  told_table t q = sym e ∙ ap (told b) q
+  told_table t e = sym e
 
-  pub told_fault : (f : Fault) → a ≡ Refused f → read b ≡ reading.Refused (number f) (place f)
+  pub told_fault : (f : Fault) → told (Err f) ≡ read b → read b ≡ reading.Refused (number f) f.place
   unfolding told
-  told_fault f q = sym e ∙ ap (told b) q
+  told_fault f e = sym e
 
-  pub told_accepted : (t : Table) → a ≡ Read t → Accepted (shown t b)
-  told_accepted t q = accepted b (shown t b) (told_table t q)
+-- A table that reading finds keeps every rule, and stands whole in the bytes that were read.
+module _ (t : Table) where
+  pub told_accepted : (b : List ℕ) → read b ≡ Is (shown t) → Accepted (shown t)
+  told_accepted b q = accepted b (shown t) q
 
-  pub told_stands : (t : Table) → a ≡ Read t → Stands t b
+  pub told_stands : read t.bytes.now ≡ Is (shown t) → Stands t
   unfolding counts_in shown table_at
-  told_stands t q = stands b (shown t b) (told_table t q)
+  told_stands q = stands t.bytes.now (shown t) q

@@ -1,77 +1,57 @@
--- What the reader's answers say: the number and place of each fault, and the table that a struct of four counts shows in a list of bytes.
+-- The number of each fault, the table that a struct of four counts and its bytes shows, and what answers say.
 -- Assumes nothing.
-use Rattle.std.specs.Prelude.{ℕ, ◌≤◌, List, length}
+use Rattle.std.specs.Prelude.{ℕ, ◌≤◌, List, length, Result, Ok, Err}
 use Rattle.rules.specs.Table as rules
 use Rattle.rules.specs.Reading as reading
-use Rattle.rules.specs.Reading.{Counts, Reading, Is, table_at, end_at}
+use Rattle.rules.specs.Reading.{Counts, table_at, end_at}
+use Rattle.rules.specs.Calls.{Left, Value, refusing}
 use Rattle.table.specs.declared.Table.{Table}
-use Rattle.table.specs.declared.Fault.{Fault}
-use Rattle.table.specs.declared.Fault.TheVariants as faults
-use Rattle.table.specs.declared.Answer.{Answer}
-use Rattle.table.specs.declared.Answer.TheVariants.{Read, Refused}
-use Rattle.table.specs.declared.Check.{Check}
-use Rattle.table.specs.declared.Check.TheVariants.{Fine, Bad}
+use Rattle.table.specs.declared.refusals.Refusal.{Refusal}
+use Rattle.table.specs.declared.refusals.Refusal.TheVariants as refusals
+use Rattle.table.specs.declared.refusals.Fault.{Fault}
 
 -- The numbers of document 01.
-unfoldable pub number : Fault → ℕ
-number (faults.Short p) = 1
-number (faults.Form p) = 2
-number (faults.Count p) = 3
-number (faults.Parent p) = 4
-number (faults.Kind p) = 5
-number (faults.Provider p) = 6
-number (faults.Covered p) = 7
-number (faults.Task p) = 8
-number (faults.Resource p) = 9
-number (faults.LockSet p) = 10
-number (faults.Leftover p) = 11
-number (faults.Room p) = 12
-number (faults.NoThresholds p) = 13
-number (faults.State p) = 14
-number (faults.Name p) = 15
-number (faults.Phase p) = 16
-number (faults.Processor p) = 17
-number (faults.Held p) = 18
+unfoldable pub numbered : Refusal → ℕ
+numbered refusals.Short = 1
+numbered refusals.Form = 2
+numbered refusals.Count = 3
+numbered refusals.Parent = 4
+numbered refusals.Kind = 5
+numbered refusals.Provider = 6
+numbered refusals.Covered = 7
+numbered refusals.Task = 8
+numbered refusals.Resource = 9
+numbered refusals.LockSet = 10
+numbered refusals.Leftover = 11
+numbered refusals.Room = 12
+numbered refusals.NoThresholds = 13
+numbered refusals.State = 14
+numbered refusals.Name = 15
+numbered refusals.Phase = 16
+numbered refusals.Processor = 17
+numbered refusals.Held = 18
 
--- Each case carries its place.
-unfoldable pub place : Fault → ℕ
-place (faults.Short p) = p
-place (faults.Form p) = p
-place (faults.Count p) = p
-place (faults.Parent p) = p
-place (faults.Kind p) = p
-place (faults.Provider p) = p
-place (faults.Covered p) = p
-place (faults.Task p) = p
-place (faults.Resource p) = p
-place (faults.LockSet p) = p
-place (faults.Leftover p) = p
-place (faults.Room p) = p
-place (faults.NoThresholds p) = p
-place (faults.State p) = p
-place (faults.Name p) = p
-place (faults.Phase p) = p
-place (faults.Processor p) = p
-place (faults.Held p) = p
+unfoldable pub number : Fault → ℕ
+number f = numbered f.refusal
 
 -- The counts of the struct.
 abbrev pub counts : Table → Counts
 counts t = record { nodes = t.nodes; locks = t.locks; resources = t.resources; accesses = t.accesses }
 
--- The table that the struct shows in the bytes b.
-unfoldable pub shown : Table → List ℕ → rules.Table
-shown t b = table_at (counts t) b
+-- The table that the struct shows in its bytes.
+unfoldable pub shown : Table → rules.Table
+shown t = table_at (counts t) t.bytes.now
 
--- Every record of the table stands in the bytes b.
-abbrev pub Stands : Table → List ℕ → Type 0
-Stands t b = end_at (counts t) ≤ length b
+-- Every record of the table stands in its bytes.
+abbrev pub Stands : Table → Type 0
+Stands t = end_at (counts t) ≤ length t.bytes.now
 
--- What an answer about the bytes b says: they are this table, or are refused with this number at this place.
-unfoldable pub told : List ℕ → Answer → Reading
-told b (Read t) = Is (shown t b)
-told b (Refused f) = Reading.Refused (number f) (place f)
+-- What the test of a count, a record or a section says.
+unfoldable pub checked : Result Unit Fault → reading.Check
+checked (Ok u) = reading.Fine
+checked (Err f) = reading.Fault (number f) f.place
 
--- What the test of a count or a record says.
-unfoldable pub checked : Check → reading.Check
-checked Fine = reading.Fine
-checked (Bad f) = reading.Fault (number f) (place f)
+-- What a call with this answer leaves in a buffer that now holds l: a value, or the refusal's number and place.
+unfoldable pub left : Result ℕ Fault → List ℕ → Left
+left (Ok n) l = record { answer = Value n; buffer = l }
+left (Err f) l = refusing (number f) f.place l

@@ -1,1 +1,4 @@
 pub mod Answers
+pub mod Kinds
+pub mod OneProof
+pub mod Read

@@ -2,111 +2,112 @@
 ghost use Rattle.std.specs.Prelude.{◌≡◌, ◌+◌, ◌*◌, ◌<◌};
 ghost use Rattle.rules.specs.Reading.{locks_at, resources_at, accesses_at, lock_at, resource_at, access_at};
 ghost use Rattle.table.specs.Answers.{counts, shown};
+ghost use Rattle.table.specs.Kinds.{node_kind, lock_kind};
 
-use crate::Table;
-use crate::bytes::{byte_at, number_at, pair_at, wide};
+use crate::bytes::{byte_at, number_at, pair_at};
+use crate::{LockKind, NodeKind, Table};
 
-impl Table {
-    pub(crate) fn locks_at(self) -> usize
-        ensures { result ≡ locks_at self.nodes }
+impl Table<'_> {
+    pub(crate) fn locks_at(&self) -> usize
+        ensures { (result ≡ locks_at self.now.nodes) × (result < 65536) }
     {
-        2 + wide(self.nodes) * 2
+        2 + usize::from(self.nodes) * 2
     }
 
-    pub(crate) fn resources_at(self) -> usize
-        ensures { result ≡ resources_at self.nodes self.locks }
+    pub(crate) fn resources_at(&self) -> usize
+        ensures { (result ≡ resources_at self.now.nodes self.now.locks) × (result < 65536) }
     {
-        self.locks_at() + 1 + wide(self.locks) * 3
+        self.locks_at() + 1 + usize::from(self.locks) * 3
     }
 
-    pub(crate) fn accesses_at(self) -> usize
-        ensures { result ≡ accesses_at self.nodes self.locks self.resources }
+    pub(crate) fn accesses_at(&self) -> usize
+        ensures { (result ≡ accesses_at self.now.nodes self.now.locks self.now.resources) × (result < 65536) }
     {
-        self.resources_at() + 1 + wide(self.resources) * 2
+        self.resources_at() + 1 + usize::from(self.resources) * 2
     }
 
-    pub(crate) fn lock_at(self, k: usize) -> usize
+    pub(crate) fn lock_at(&self, k: usize) -> usize
         requires { k < 256 }
-        ensures { result ≡ lock_at (counts self) k }
+        ensures { (result ≡ lock_at (counts self.now) k) × (result < 65536) }
     {
         self.locks_at() + 1 + k * 3
     }
 
-    pub(crate) fn resource_at(self, r: usize) -> usize
+    pub(crate) fn resource_at(&self, r: usize) -> usize
         requires { r < 256 }
-        ensures { result ≡ resource_at (counts self) r }
+        ensures { (result ≡ resource_at (counts self.now) r) × (result < 65536) }
     {
         self.resources_at() + 1 + r * 2
     }
 
-    pub(crate) fn access_at(self, i: usize) -> usize
+    pub(crate) fn access_at(&self, i: usize) -> usize
         requires { i < 256 }
-        ensures { result ≡ access_at (counts self) i }
+        ensures { (result ≡ access_at (counts self.now) i) × (result < 65536) }
     {
         self.accesses_at() + 1 + i * 6
     }
 
-    pub fn parent(self, s: &[u8], n: usize) -> usize
+    pub fn parent(&self, n: usize) -> usize
         requires { n < 256 }
-        ensures { (result ≡ (shown self s.now).tree.parent n) × (result < 256) }
+        ensures { (result ≡ (shown self.now).tree.parent n) × (result < 256) }
     {
-        number_at(s, 2 + n * 2)
+        number_at(self.bytes, 2 + n * 2)
     }
 
-    pub fn kind(self, s: &[u8], n: usize) -> u8
+    pub fn kind(&self, n: usize) -> NodeKind
         requires { n < 256 }
-        ensures { result ≡ (shown self s.now).tree.kind n }
+        ensures { result ≡ node_kind ((shown self.now).tree.kind n) }
     {
-        byte_at(s, 2 + n * 2 + 1)
+        byte_at(self.bytes, 2 + n * 2 + 1).into()
     }
 
-    pub fn provider(self, s: &[u8], k: usize) -> usize
+    pub fn provider(&self, k: usize) -> usize
         requires { k < 256 }
-        ensures { (result ≡ (shown self s.now).provider k) × (result < 256) }
+        ensures { (result ≡ (shown self.now).provider k) × (result < 256) }
     {
-        number_at(s, self.lock_at(k))
+        number_at(self.bytes, self.lock_at(k))
     }
 
-    pub fn lock_kind(self, s: &[u8], k: usize) -> u8
+    pub fn lock_kind(&self, k: usize) -> LockKind
         requires { k < 256 }
-        ensures { result ≡ (shown self s.now).lock_kind k }
+        ensures { result ≡ lock_kind ((shown self.now).lock_kind k) }
     {
-        byte_at(s, self.lock_at(k) + 1)
+        byte_at(self.bytes, self.lock_at(k) + 1).into()
     }
 
-    pub fn covered(self, s: &[u8], k: usize) -> usize
+    pub fn covered(&self, k: usize) -> usize
         requires { k < 256 }
-        ensures { (result ≡ (shown self s.now).covered k) × (result < 256) }
+        ensures { (result ≡ (shown self.now).covered k) × (result < 256) }
     {
-        number_at(s, self.lock_at(k) + 2)
+        number_at(self.bytes, self.lock_at(k) + 2)
     }
 
-    pub fn label(self, s: &[u8], r: usize) -> usize
+    pub fn label(&self, r: usize) -> usize
         requires { r < 256 }
-        ensures { (result ≡ (shown self s.now).label r) × (result < 65536) }
+        ensures { (result ≡ (shown self.now).label r) × (result < 65536) }
     {
-        pair_at(s, self.resource_at(r))
+        pair_at(self.bytes, self.resource_at(r))
     }
 
-    pub fn task_of(self, s: &[u8], i: usize) -> usize
+    pub fn task_of(&self, i: usize) -> usize
         requires { i < 256 }
-        ensures { (result ≡ (shown self s.now).task_of i) × (result < 256) }
+        ensures { (result ≡ (shown self.now).task_of i) × (result < 256) }
     {
-        number_at(s, self.access_at(i))
+        number_at(self.bytes, self.access_at(i))
     }
 
-    pub fn resource_of(self, s: &[u8], i: usize) -> usize
+    pub fn resource_of(&self, i: usize) -> usize
         requires { i < 256 }
-        ensures { (result ≡ (shown self s.now).resource_of i) × (result < 256) }
+        ensures { (result ≡ (shown self.now).resource_of i) × (result < 256) }
     {
-        number_at(s, self.access_at(i) + 1)
+        number_at(self.bytes, self.access_at(i) + 1)
     }
 
-    pub fn lock_set(self, s: &[u8], i: usize) -> u32
+    pub fn lock_set(&self, i: usize) -> u32
         requires { i < 256 }
-        ensures { result ≡ (shown self s.now).lock_set i }
+        ensures { result ≡ (shown self.now).lock_set i }
     {
         let at = self.access_at(i) + 2;
-        (pair_at(s, at) * 65536 + pair_at(s, at + 2)) as u32
+        (pair_at(self.bytes, at) * 65536 + pair_at(self.bytes, at + 2)) as u32
     }
 }

@@ -1,57 +1,61 @@
-// A fault's number and place, as document 01 numbers them.
+// Refusals: what a table, a state or a step is refused for, and where.
 ghost use Rattle.std.specs.Prelude.{◌≡◌};
-ghost use Rattle.table.specs.Answers.{number, place};
+ghost use Rattle.table.specs.Answers.{number};
 
-use crate::Fault;
+use std::fmt;
+
+// Each refusal has its number.
+#[derive(Clone, Copy, Debug, PartialEq, Eq)]
+pub enum Refusal {
+    Short = 1,
+    Form = 2,
+    Count = 3,
+    Parent = 4,
+    Kind = 5,
+    Provider = 6,
+    Covered = 7,
+    Task = 8,
+    Resource = 9,
+    LockSet = 10,
+    Leftover = 11,
+    Room = 12,
+    NoThresholds = 13,
+    State = 14,
+    Name = 15,
+    Phase = 16,
+    Processor = 17,
+    Held = 18,
+}
+
+// A refusal and its place.
+#[derive(Clone, Copy, Debug, PartialEq, Eq)]
+pub struct Fault {
+    pub refusal: Refusal,
+    pub place: usize,
+}
+
+impl Refusal {
+    pub fn at(self, place: usize) -> Fault
+        ensures { result ≡ record { refusal = self; place = place } }
+    {
+        Fault {
+            refusal: self,
+            place,
+        }
+    }
+}
 
 impl Fault {
+    #[tactic(auto, using(crate::proofs::Faults::tag_numbered), unfolding(crate::specs::Answers::number))]
     pub fn number(self) -> usize
         ensures { result ≡ number self }
     {
-        match self {
-            Fault::Short(_) => 1,
-            Fault::Form(_) => 2,
-            Fault::Count(_) => 3,
-            Fault::Parent(_) => 4,
-            Fault::Kind(_) => 5,
-            Fault::Provider(_) => 6,
-            Fault::Covered(_) => 7,
-            Fault::Task(_) => 8,
-            Fault::Resource(_) => 9,
-            Fault::LockSet(_) => 10,
-            Fault::Leftover(_) => 11,
-            Fault::Room(_) => 12,
-            Fault::NoThresholds(_) => 13,
-            Fault::State(_) => 14,
-            Fault::Name(_) => 15,
-            Fault::Phase(_) => 16,
-            Fault::Processor(_) => 17,
-            Fault::Held(_) => 18,
-        }
+        self.refusal as usize
     }
+}
 
-    pub fn place(self) -> usize
-        ensures { result ≡ place self }
-    {
-        match self {
-            Fault::Short(p) => p,
-            Fault::Form(p) => p,
-            Fault::Count(p) => p,
-            Fault::Parent(p) => p,
-            Fault::Kind(p) => p,
-            Fault::Provider(p) => p,
-            Fault::Covered(p) => p,
-            Fault::Task(p) => p,
-            Fault::Resource(p) => p,
-            Fault::LockSet(p) => p,
-            Fault::Leftover(p) => p,
-            Fault::Room(p) => p,
-            Fault::NoThresholds(p) => p,
-            Fault::State(p) => p,
-            Fault::Name(p) => p,
-            Fault::Phase(p) => p,
-            Fault::Processor(p) => p,
-            Fault::Held(p) => p,
-        }
+impl fmt::Display for Fault {
+    fn fmt<W: fmt::Write>(&self, f: &mut fmt::Formatter<W>) -> fmt::Result {
+        write!(f, "refused {} at {}", self.number(), self.place)
     }
 }

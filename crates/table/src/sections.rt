@@ -1,139 +1,92 @@
 // The sections of a table in their order, each its count and then its records. The first fault ends a section.
 ghost use Rattle.std.specs.Prelude.{◌≡◌};
-ghost use Rattle.rules.specs.Reading.{concluded, counts_of, form_section, node_section, lock_section, resource_section, access_section, end_section};
-ghost use Rattle.table.specs.Answers.{counts, shown, told};
+ghost use Rattle.rules.specs.Reading.{counts_of, form_section, node_section, lock_section, resource_section, access_section, end_section};
+ghost use Rattle.table.specs.Answers.{counts, checked};
 
-use crate::bytes::{byte_at, wide};
+use crate::bytes::byte_at;
 use crate::records::check_count;
-use crate::{Answer, Check, Fault, Table};
+use crate::{Fault, Refusal, Table};
 
-impl Table {
+impl<'a> Table<'a> {
     // The counts that stand in the bytes, each where those before it put it; 0 where that is past the end.
-    pub(crate) fn counted(s: &[u8]) -> Table
-        ensures { counts result ≡ counts_of s.now }
+    pub(crate) fn counted(bytes: &'a [u8]) -> Table<'a>
+        ensures { (counts result ≡ counts_of bytes.now) × (result.bytes ≡ bytes.entry) }
     {
-        let nodes = byte_at(s, 1);
-        let t = Table {
-            nodes: nodes,
+        let mut t = Table {
+            bytes,
+            nodes: byte_at(bytes, 1),
             locks: 0,
             resources: 0,
             accesses: 0,
         };
-        let locks = byte_at(s, t.locks_at());
-        let t = Table {
-            nodes: nodes,
-            locks: locks,
-            resources: 0,
-            accesses: 0,
-        };
-        let resources = byte_at(s, t.resources_at());
-        let t = Table {
-            nodes: nodes,
-            locks: locks,
-            resources: resources,
-            accesses: 0,
-        };
-        let accesses = byte_at(s, t.accesses_at());
-        Table {
-            nodes: nodes,
-            locks: locks,
-            resources: resources,
-            accesses: accesses,
-        }
+        t.locks = byte_at(bytes, t.locks_at());
+        t.resources = byte_at(bytes, t.resources_at());
+        t.accesses = byte_at(bytes, t.accesses_at());
+        t
     }
 
-    #[tactic(auto, using(crate::proofs::FormLaws::form_short, crate::proofs::FormLaws::form_wrong, crate::proofs::FormLaws::form_right), unfolding(crate::specs::Answers::told, crate::specs::Answers::number, crate::specs::Answers::place, rules::specs::Reading::concluded))]
-    pub(crate) fn form_section(self, s: &[u8]) -> Answer
-        ensures { told s.now result ≡ concluded (form_section s.now) (shown self s.now) }
+    #[tactic(auto, using(crate::proofs::FormLaws::form_short, crate::proofs::FormLaws::form_wrong, crate::proofs::FormLaws::form_right), unfolding(crate::specs::Answers::checked, crate::specs::Answers::number, crate::specs::Answers::numbered))]
+    pub(crate) fn form_section(&self) -> Result<(), Fault>
+        ensures { checked result ≡ form_section self.now.bytes.now }
     {
-        if s.len() < 1 {
-            return Answer::Refused(Fault::Short(s.len()));
+        if self.bytes.is_empty() {
+            return Err(Refusal::Short.at(0));
         }
-        let form = s[0];
-        if form != Table::FORM {
-            return Answer::Refused(Fault::Form(0));
+        if self.bytes[0] != Table::FORM {
+            return Err(Refusal::Form.at(0));
         }
-        Answer::Read(self)
+        Ok(())
     }
 
-    pub(crate) fn node_section(self, s: &[u8]) -> Answer
-        ensures { told s.now result ≡ concluded (node_section (counts self) s.now) (shown self s.now) }
+    #[inline(never)]
+    pub(crate) fn node_section(&self) -> Result<(), Fault>
+        ensures { checked result ≡ node_section (counts self.now) self.now.bytes.now }
     {
-        let c = check_count(s, 1, 1, Table::MAX_NODES);
-        if let Check::Bad(f) = c {
-            return Answer::Refused(f);
+        check_count(self.bytes, 1, 1, Table::MAX_NODES)?;
+        for n in 0..usize::from(self.nodes) {
+            self.check_node(n)?;
         }
-        let count = wide(self.nodes);
-        let mut n = 0;
-        while n < count {
-            let c = self.check_node(s, n);
-            if let Check::Bad(f) = c {
-                return Answer::Refused(f);
-            }
-            n += 1;
-        }
-        Answer::Read(self)
+        Ok(())
     }
 
-    pub(crate) fn lock_section(self, s: &[u8]) -> Answer
-        ensures { told s.now result ≡ concluded (lock_section (counts self) s.now) (shown self s.now) }
+    pub(crate) fn lock_section(&self) -> Result<(), Fault>
+        ensures { checked result ≡ lock_section (counts self.now) self.now.bytes.now }
     {
-        let c = check_count(s, self.locks_at(), 0, Table::MAX_LOCKS);
-        if let Check::Bad(f) = c {
-            return Answer::Refused(f);
+        check_count(self.bytes, self.locks_at(), 0, Table::MAX_LOCKS)?;
+        for k in 0..usize::from(self.locks) {
+            self.check_lock(k)?;
         }
-        let count = wide(self.locks);
-        let mut k = 0;
-        while k < count {
-            let c = self.check_lock(s, k);
-            if let Check::Bad(f) = c {
-                return Answer::Refused(f);
-            }
-            k += 1;
-        }
-        Answer::Read(self)
+        Ok(())
     }
 
     // A resource's record has nothing to test, so the section is complete when its last record is.
-    pub(crate) fn resource_section(self, s: &[u8]) -> Answer
-        ensures { told s.now result ≡ concluded (resource_section (counts self) s.now) (shown self s.now) }
+    pub(crate) fn resource_section(&self) -> Result<(), Fault>
+        ensures { checked result ≡ resource_section (counts self.now) self.now.bytes.now }
     {
-        let c = check_count(s, self.resources_at(), 0, Table::MAX_RESOURCES);
-        if let Check::Bad(f) = c {
-            return Answer::Refused(f);
+        check_count(self.bytes, self.resources_at(), 0, Table::MAX_RESOURCES)?;
+        if self.bytes.len() < self.accesses_at() {
+            return Err(Refusal::Short.at(self.bytes.len()));
         }
-        if s.len() < self.accesses_at() {
-            return Answer::Refused(Fault::Short(s.len()));
-        }
-        Answer::Read(self)
+        Ok(())
     }
 
-    pub(crate) fn access_section(self, s: &[u8]) -> Answer
-        ensures { told s.now result ≡ concluded (access_section (counts self) s.now) (shown self s.now) }
+    pub(crate) fn access_section(&self) -> Result<(), Fault>
+        ensures { checked result ≡ access_section (counts self.now) self.now.bytes.now }
     {
-        let c = check_count(s, self.accesses_at(), 0, Table::MAX_ACCESSES);
-        if let Check::Bad(f) = c {
-            return Answer::Refused(f);
+        check_count(self.bytes, self.accesses_at(), 0, Table::MAX_ACCESSES)?;
+        for i in 0..usize::from(self.accesses) {
+            self.check_access(i)?;
         }
-        let count = wide(self.accesses);
-        let mut i = 0;
-        while i < count {
-            let c = self.check_access(s, i);
-            if let Check::Bad(f) = c {
-                return Answer::Refused(f);
-            }
-            i += 1;
-        }
-        Answer::Read(self)
+        Ok(())
     }
 
-    pub(crate) fn end_section(self, s: &[u8]) -> Answer
-        ensures { told s.now result ≡ concluded (end_section (counts self) s.now) (shown self s.now) }
+    pub(crate) fn end_section(&self) -> Result<(), Fault>
+        ensures { checked result ≡ end_section (counts self.now) self.now.bytes.now }
     {
-        let end = self.access_at(wide(self.accesses));
-        if end < s.len() {
-            return Answer::Refused(Fault::Leftover(end));
+        let end = self.access_at(usize::from(self.accesses));
+        if end < self.bytes.len() {
+            return Err(Refusal::Leftover.at(end));
         }
-        Answer::Read(self)
+        Ok(())
     }
 }

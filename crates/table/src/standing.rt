@@ -1,21 +1,22 @@
-// Whole records of a table that stands in the bytes from its first to its last: no byte is tested against the end.
+// Whole records of a table that stands in its bytes from the first to the last: no byte is tested against the end. They ask for no more than
+// that it stands, so that they serve any table that does, accepted or not.
 ghost use Rattle.std.specs.Prelude.{◌≡◌, ◌+◌, ◌<◌, ◌≤◌, length};
 ghost use Rattle.rules.specs.Reading.{two_bytes};
 ghost use Rattle.table.specs.Answers.{shown, Stands};
+ghost use Rattle.table.specs.Kinds.{node_kind, lock_kind};
 
-use crate::Table;
-use crate::bytes::wide;
+use crate::{LockKind, NodeKind, Table};
 
 #[derive(Clone, Copy)]
 pub struct Node {
     pub parent: usize,
-    pub kind: u8,
+    pub kind: NodeKind,
 }
 
 #[derive(Clone, Copy)]
 pub struct Lock {
     pub provider: usize,
-    pub kind: u8,
+    pub kind: LockKind,
     pub covered: usize,
 }
 
@@ -26,47 +27,48 @@ pub struct Access {
     pub locks: u32,
 }
 
-// The two-byte number at p, high byte first.
-fn pair(s: &[u8], p: usize) -> usize
-    requires { (p < 65536) × (p + 2 ≤ length s.now) }
-    ensures { (result ≡ two_bytes s.now p) × (result < 65536) }
+// The two-byte number at p, high byte first. `pair_at` tests each byte against the end; one function for both would take a closure that reads a
+// byte, and be no plainer.
+fn pair(bytes: &[u8], p: usize) -> usize
+    requires { (p < 65536) × (p + 2 ≤ length bytes.now) }
+    ensures { (result ≡ two_bytes bytes.now p) × (result < 65536) }
 {
-    wide(s[p]) * 256 + wide(s[p + 1])
+    usize::from(bytes[p]) * 256 + usize::from(bytes[p + 1])
 }
 
-impl Table {
-    pub fn node(self, s: &[u8], n: usize) -> Node
-        requires { (n < self.nodes) × (Stands self s.now) }
-        ensures { (result.parent ≡ (shown self s.now).tree.parent n) × (result.kind ≡ (shown self s.now).tree.kind n) }
+impl Table<'_> {
+    pub fn node(&self, n: usize) -> Node
+        requires { (n < self.now.nodes) × (Stands self.now) }
+        ensures { (result.parent ≡ (shown self.now).tree.parent n) × (result.kind ≡ node_kind ((shown self.now).tree.kind n)) }
     {
         let at = 2 + n * 2;
         Node {
-            parent: wide(s[at]),
-            kind: s[at + 1],
+            parent: usize::from(self.bytes[at]),
+            kind: self.bytes[at + 1].into(),
         }
     }
 
-    pub fn lock(self, s: &[u8], k: usize) -> Lock
-        requires { (k < self.locks) × (Stands self s.now) }
-        ensures { (result.provider ≡ (shown self s.now).provider k) × (result.kind ≡ (shown self s.now).lock_kind k) × (result.covered ≡ (shown self s.now).covered k) }
+    pub fn lock(&self, k: usize) -> Lock
+        requires { (k < self.now.locks) × (Stands self.now) }
+        ensures { (result.provider ≡ (shown self.now).provider k) × (result.kind ≡ lock_kind ((shown self.now).lock_kind k)) × (result.covered ≡ (shown self.now).covered k) }
     {
         let at = self.lock_at(k);
         Lock {
-            provider: wide(s[at]),
-            kind: s[at + 1],
-            covered: wide(s[at + 2]),
+            provider: usize::from(self.bytes[at]),
+            kind: self.bytes[at + 1].into(),
+            covered: usize::from(self.bytes[at + 2]),
         }
     }
 
-    pub fn access(self, s: &[u8], i: usize) -> Access
-        requires { (i < self.accesses) × (Stands self s.now) }
-        ensures { (result.task ≡ (shown self s.now).task_of i) × (result.resource ≡ (shown self s.now).resource_of i) × (result.locks ≡ (shown self s.now).lock_set i) }
+    pub fn access(&self, i: usize) -> Access
+        requires { (i < self.now.accesses) × (Stands self.now) }
+        ensures { (result.task ≡ (shown self.now).task_of i) × (result.resource ≡ (shown self.now).resource_of i) × (result.locks ≡ (shown self.now).lock_set i) }
     {
         let at = self.access_at(i);
         Access {
-            task: wide(s[at]),
-            resource: wide(s[at + 1]),
-            locks: (pair(s, at + 2) * 65536 + pair(s, at + 2 + 2)) as u32,
+            task: usize::from(self.bytes[at]),
+            resource: usize::from(self.bytes[at + 1]),
+            locks: (pair(self.bytes, at + 2) * 65536 + pair(self.bytes, at + 4)) as u32,
         }
     }
 }

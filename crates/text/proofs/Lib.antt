@@ -1,4 +1,3 @@
-pub mod Runs
 pub mod Numbers
 pub mod Turns
 pub mod Unique

@@ -11,8 +11,8 @@ use Rattle.rules.proofs.Decimal.{decimal_last, decimal_more, decimal_few}
 use Rattle.rows.specs.Writing.{Wrote}
 use Rattle.rows.proofs.Written.{next}
 
-pub number_last : {l m : List ℕ} {k n r : ℕ} → n < 10 → Wrote l k ((48 + n) ∷ []) m r → Wrote l k (decimal n) m r
-number_last {n = n} h w = rw (decimal_last n h) w
+pub number_last : {l m : List ℕ} {k n r : ℕ} → n < 10 → Wrote l k ((48 + n % 10) ∷ []) m r → Wrote l k (decimal n) m r
+number_last {n = n} h w = let e : n % 10 ≡ n = omega arith in rw (decimal_last n h) (rw e at w)
 
 pub number_more : {l m o : List ℕ} {k n j r : ℕ} → 10 ≤ n → Wrote l k (decimal (n / 10)) m j → Wrote m j ((48 + n % 10) ∷ []) o r → Wrote l k (decimal n) o r
 number_more {n = n} h w v = rw (decimal_more n h) (next w v)

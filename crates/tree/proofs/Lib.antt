@@ -1,4 +1,5 @@
+pub mod Allowed
 pub mod Fuel
-pub mod Turns
 pub mod Tasks
+pub mod Turns
 pub mod Unique

@@ -3,12 +3,11 @@
 use Prim.Native.Nat.{ℕ, ◌<◌}
 use mathlib.Core.Path.{◌≡◌}
 use mathlib.Core.Bool.{true}
-use mathlib.Core.List.{List}
 use Rattle.rules.specs.Table.{is_task}
 use Rattle.rules.proofs.Nodes.{task_at}
 use Rattle.table.specs.declared.Table.{Table}
 use Rattle.table.specs.Answers.{shown}
 use Rattle.table.proofs.Shown.{nodes_shown}
 
-pub task_below : (t : Table) (b : List ℕ) (x : ℕ) → is_task (shown t b).tree x ≡ true → x < t.nodes
-task_below t b x e = rw nodes_shown at (task_at (shown t b).tree x e).0
+pub task_below : (t : Table) (x : ℕ) → is_task (shown t).tree x ≡ true → x < t.nodes
+task_below t x e = rw nodes_shown at (task_at (shown t).tree x e).0

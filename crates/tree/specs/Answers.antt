@@ -1,11 +1,10 @@
 -- What the answers of the preemption call say.
 -- Assumes nothing.
+use Rattle.std.specs.Prelude.{Bool, cond, Result, Ok, Err}
 use Rattle.rules.specs.Calls.{Answer, Value, Refusal}
-use Rattle.table.specs.Answers.{number, place}
-use Rattle.tree.specs.declared.Preemption.{Preemption}
-use Rattle.tree.specs.declared.Preemption.TheVariants.{Yes, No, Refused}
+use Rattle.table.specs.declared.refusals.Fault.{Fault}
+use Rattle.table.specs.Answers.{number}
 
-unfoldable pub answered : Preemption → Answer
-answered Yes = Value 1
-answered No = Value 0
-answered (Refused f) = Refusal (number f) (place f)
+unfoldable pub answered : Result Bool Fault → Answer
+answered (Ok may) = Value (cond may 1 0)
+answered (Err f) = Refusal (number f) f.place

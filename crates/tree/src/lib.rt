@@ -7,23 +7,18 @@ ghost use Rattle.rules.specs.Calls.{preempts_call};
 ghost use Rattle.table.specs.Answers.{shown};
 ghost use Rattle.tree.specs.Answers.{answered};
 
-use table::{Answer, Fault, Table};
+use table::{Fault, NodeKind, Table};
 
-#[derive(Clone, Copy)]
-pub enum Preemption {
-    Yes,
-    No,
-    Refused(Fault),
-}
+// A climb counts nothing: each turn goes on from the parent, so no range or chain says it plainer.
 
 // Node n is a, or lies below it.
-pub fn at_or_below(t: Table, s: &[u8], n: usize, a: usize) -> bool
+pub fn at_or_below(t: &Table<'_>, n: usize, a: usize) -> bool
     requires { n < 256 }
-    ensures { result ≡ at_or_below (shown t s.now).tree n a }
+    ensures { result ≡ at_or_below (shown t.now).tree n a }
 {
     let mut at = n;
     while at != a {
-        let p = t.parent(s, at);
+        let p = t.parent(at);
         if at <= p {
             return false;
         }
@@ -32,28 +27,26 @@ pub fn at_or_below(t: Table, s: &[u8], n: usize, a: usize) -> bool
     true
 }
 
-pub fn is_ancestor(t: Table, s: &[u8], a: usize, n: usize) -> bool
+#[tactic(auto, unfolding(rules::specs::Preemption::is_ancestor))]
+pub fn is_ancestor(t: &Table<'_>, a: usize, n: usize) -> bool
     requires { n < 256 }
-    ensures { result ≡ is_ancestor (shown t s.now).tree a n }
+    ensures { result ≡ is_ancestor (shown t.now).tree a n }
 {
-    if n == a {
-        return false;
-    }
-    at_or_below(t, s, n, a)
+    n != a && at_or_below(t, n, a)
 }
 
 // The nearest common scheduler of the tasks x and u.
-pub fn nearest_common(t: Table, s: &[u8], x: usize, u: usize) -> usize
+pub fn nearest_common(t: &Table<'_>, x: usize, u: usize) -> usize
     requires { (x < 256) × (u < 256) }
-    ensures { (result ≡ nearest_common (shown t s.now).tree x u) × (result < 256) }
+    ensures { (result ≡ nearest_common (shown t.now).tree x u) × (result < 256) }
 {
     let mut at = u;
     loop {
-        let p = t.parent(s, at);
+        let p = t.parent(at);
         if at <= p {
             return 0;
         }
-        if at_or_below(t, s, x, p) {
+        if at_or_below(t, x, p) {
             return p;
         }
         at = p;
@@ -61,17 +54,14 @@ pub fn nearest_common(t: Table, s: &[u8], x: usize, u: usize) -> usize
 }
 
 // The child of p that is above or equal to n.
-pub fn child_above(t: Table, s: &[u8], p: usize, n: usize) -> usize
+pub fn child_above(t: &Table<'_>, p: usize, n: usize) -> usize
     requires { n < 256 }
-    ensures { (result ≡ child_above (shown t s.now).tree p n) × (result < 256) }
+    ensures { (result ≡ child_above (shown t.now).tree p n) × (result < 256) }
 {
     let mut at = n;
     loop {
-        let q = t.parent(s, at);
-        if at <= q {
-            return at;
-        }
-        if q == p {
+        let q = t.parent(at);
+        if at <= q || q == p {
             return at;
         }
         at = q;
@@ -79,54 +69,36 @@ pub fn child_above(t: Table, s: &[u8], p: usize, n: usize) -> usize
 }
 
 // Scheduler p lets its child a preempt its child b.
-#[tactic(auto, unfolding(rules::specs::Preemption::allows))]
-fn scheduler_allows(t: Table, s: &[u8], p: usize, a: usize, b: usize) -> bool
+#[tactic(auto, using(crate::proofs::Allowed::time_sliced_allows, crate::proofs::Allowed::preemptive_allows, crate::proofs::Allowed::others_allow))]
+fn scheduler_allows(t: &Table<'_>, p: usize, a: usize, b: usize) -> bool
     requires { p < 256 }
-    ensures { result ≡ allows (shown t s.now).tree p a b }
+    ensures { result ≡ allows (shown t.now).tree p a b }
 {
-    let k = t.kind(s, p);
-    if k == Table::TIME_SLICED {
-        return true;
+    match t.kind(p) {
+        NodeKind::TimeSliced => true,
+        NodeKind::Preemptive => a < b,
+        _ => false,
     }
-    if k == Table::PREEMPTIVE {
-        return a < b;
-    }
-    false
 }
 
 // Task x may preempt task u.
-pub fn may_preempt(t: Table, s: &[u8], x: usize, u: usize) -> bool
-    ensures { result ≡ may_preempt (shown t s.now).tree x u }
+#[tactic(auto, unfolding(rules::specs::Preemption::may_preempt))]
+pub fn may_preempt(t: &Table<'_>, x: usize, u: usize) -> bool
+    ensures { result ≡ may_preempt (shown t.now).tree x u }
 {
-    if !t.is_task(s, x) {
+    if !t.is_task(x) || !t.is_task(u) || x == u {
         return false;
     }
-    if !t.is_task(s, u) {
-        return false;
-    }
-    if x == u {
-        return false;
-    }
-    let p = nearest_common(t, s, x, u);
-    let a = child_above(t, s, p, x);
-    let b = child_above(t, s, p, u);
-    scheduler_allows(t, s, p, a, b)
+    let p = nearest_common(t, x, u);
+    let a = child_above(t, p, x);
+    let b = child_above(t, p, u);
+    scheduler_allows(t, p, a, b)
 }
 
 // The call: may task x preempt task u of the table that the bytes are?
-pub fn preempts(s: &[u8], x: usize, u: usize) -> Preemption
-    ensures { answered result ≡ preempts_call s.now x u }
+#[tactic(auto, using(table::proofs::Told::told_table), unfolding(crate::specs::Answers::answered, rules::specs::Calls::preempts_call, rules::specs::Calls::reading))]
+pub fn preempts(bytes: &[u8], x: usize, u: usize) -> Result<bool, Fault>
+    ensures { answered result ≡ preempts_call bytes.now x u }
 {
-    let a = Table::read(s);
-    match a {
-        Answer::Refused(f) => {
-            return Preemption::Refused(f);
-        }
-        Answer::Read(t) => {
-            if may_preempt(t, s, x, u) {
-                return Preemption::Yes;
-            }
-            return Preemption::No;
-        }
-    }
+    Ok(may_preempt(&Table::read(bytes)?.table, x, u))
 }

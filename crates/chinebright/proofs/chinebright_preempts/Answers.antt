@@ -1,24 +1,21 @@
-use mathlib.Core.Path.{sym, ◌∙◌, ap}
 use native.Mathlib.Omega.{arith}
+use mathlib.Core.Path.{◌∙◌, ap}
 use Rattle.rules.proofs.AnswersFit.{preempts_fits}
 use Rattle.tree.specs.Answers.{answered}
-use Rattle.chinebright.proofs.Codes.{place_small, value_coded, refusal_coded}
+use Rattle.chinebright.specs.Coded.{coded}
+use Rattle.chinebright.proofs.Codes.{place_small, yes_or_no}
 use Rattle.chinebright.proofs.chinebright_preempts.Goals as goal
 
 pub refused-requires : goal.refused-requires
 unfolding answered
 refused-requires c =
     let a = c.args in
-    place_small 1253 _ _ _ (omega arith) (preempts_fits a.table.now a.t a.u) (sym (ap answered c.in-Refused.is) ∙ c.preempts-a.ensures)
+    place_small 1253 _ _ _ (omega arith) (preempts_fits a.table.now a.t a.u) c.in-Err.ensures
 
-pub returns-in-Yes : goal.returns-in-Yes
-unfolding answered
-returns-in-Yes c = value_coded _ _ (sym (ap answered c.in-Yes.is) ∙ c.preempts-a.ensures)
+pub returns-in-Ok : goal.returns-in-Ok
+unfolding answered coded
+returns-in-Ok c = c.from.ensures ∙ yes_or_no c.in-Ok.may ∙ ap coded c.in-Ok.ensures
 
-pub returns-in-No : goal.returns-in-No
-unfolding answered
-returns-in-No c = value_coded _ _ (sym (ap answered c.in-No.is) ∙ c.preempts-a.ensures)
-
-pub returns-in-Refused : goal.returns-in-Refused
-unfolding answered
-returns-in-Refused c = refusal_coded _ _ _ _ (sym (ap answered c.in-Refused.is) ∙ c.preempts-a.ensures) c.refused.ensures
+pub returns-in-Err : goal.returns-in-Err
+unfolding answered coded
+returns-in-Err c = c.refused.ensures ∙ ap coded c.in-Err.ensures

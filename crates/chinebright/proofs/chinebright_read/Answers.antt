@@ -6,18 +6,12 @@ use Rattle.chinebright.specs.Coded.{coded}
 use Rattle.chinebright.proofs.chinebright_read.Goals as goal
 
 pub refused-requires : goal.refused-requires
-refused-requires c =
-    let s = c.args.table.now in
-    omega (arith, refusal_within s _ _ (told_fault s c.read-a.result c.read-a.ensures _ c.in-Refused.is))
+refused-requires c = omega (arith, refusal_within c.args.table.now _ _ (told_fault _ _ c.in-Err.ensures.table))
 
-pub returns-in-Read : goal.returns-in-Read
+pub returns-in-Ok : goal.returns-in-Ok
 unfolding read_call reading coded
-returns-in-Read c =
-    let s = c.args.table.now in
-    rw (told_table s c.read-a.result c.read-a.ensures _ c.in-Read.is)
+returns-in-Ok c = rw (told_table _ _ c.in-Ok.ensures.table)
 
-pub returns-in-Refused : goal.returns-in-Refused
+pub returns-in-Err : goal.returns-in-Err
 unfolding read_call reading coded
-returns-in-Refused c =
-    let s = c.args.table.now in
-    rw (told_fault s c.read-a.result c.read-a.ensures _ c.in-Refused.is) c.refused.ensures
+returns-in-Err c = rw (told_fault _ _ c.in-Err.ensures.table) c.refused.ensures

@@ -1,22 +1,14 @@
-use Rattle.locks.proofs.Search.{none_yet, none_here, found, none}
+use Rattle.locks.proofs.Search.{some_passes}
+use Rattle.std.proofs.Common.{rules, tests, refl, sym, ◌∙◌, ◌&&◌, eqb}
+use Rattle.rules.specs.Table.{blocking}
+use Rattle.rules.specs.Locks.{in_set, blocked}
+use Rattle.table.specs.Answers.{shown}
 use Rattle.table.proofs.Shown.{locks_shown}
-use native.Mathlib.Omega.{arith}
-use mathlib.Core.Path.{sym, ◌∙◌}
-use Rattle.rules.specs.Locks.{blocked}
 use Rattle.locks.proofs.blocked.Goals as goal
-
-pub loop-k-init : goal.loop-k-init
-loop-k-init c = (omega arith, c.wide-count.ensures.0 ∙ sym (locks_shown _ _), none_yet _)
-
-pub returns-then-blocks_both : goal.returns-then-blocks_both
-unfolding blocked
-returns-then-blocks_both c =
-    sym (found _ _ _ (rw c.loop-k.invariant.1 at c.loop-k-test.true) (rw c.blocks_both.ensures at c.if-blocks_both.true))
-
-pub loop-k-preserved : goal.loop-k-preserved
-loop-k-preserved c =
-    (omega arith, c.loop-k.invariant.1, none_here _ _ c.loop-k.invariant.2 (rw c.blocks_both.ensures at c.if-blocks_both.false))
 
 pub returns : goal.returns
 unfolding blocked
-returns c = let l = c.loop-k in sym (none _ _ _ (omega arith) l.invariant.2)
+returns c =
+    let a = c.args in
+    some_passes (λ k. in_set k a.a && in_set k a.b && eqb ((shown a.t.now).lock_kind k) blocking) _ _ _ _ c.any.result c.any.ensures.ran refl (c.from.ensures ∙ sym (locks_shown a.t.now))
+    (λ x b q k. search (rules, tests))

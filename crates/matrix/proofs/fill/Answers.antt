@@ -1,29 +1,9 @@
 use Rattle.table.proofs.Bounds.{few_accesses_lem}
-use Rattle.matrix.proofs.Filling.{filled_none, filled_next}
+use Rattle.matrix.proofs.Filling.{filled_next}
 use native.Mathlib.Omega.{arith}
-use mathlib.Core.Path.{◌≡◌}
-use lib.ListN.{length-set}
 use Rattle.matrix.proofs.fill.Goals as goal
-
-pub loop-i-init : goal.loop-i-init
-loop-i-init c = (omega arith, c.wide-count.ensures.0, omega (arith, few_accesses_lem _ _ c.requires.0), c.requires.1, filled_none)
-
-pub access_at-a-requires : goal.access_at-a-requires
-access_at-a-requires c = (c.requires.0, omega arith, c.requires.2)
-
-pub unguarded-requires : goal.unguarded-requires
-unguarded-requires c = tt
 
 pub loop-i-preserved : goal.loop-i-preserved
 loop-i-preserved c =
     let a = c.access_at-a.ensures in
-    let i = c.loop-i.invariant in (
-      omega arith,
-      i.1,
-      i.2,
-      rw length-set i.3,
-      filled_next (omega arith) a.0 a.3 a.5 c.unguarded.ensures i.4,
-    )
-
-pub returns : goal.returns
-returns c = let z : c.loop-i.i ≡ c.args.t.accesses = omega arith in rw z at c.loop-i.invariant.4
+    filled_next (omega (arith, few_accesses_lem _ c.args.t.now.accepted)) a.0 a.3 a.5 c.unguarded.ensures c.loop-i.invariant

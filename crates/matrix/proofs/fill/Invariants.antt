@@ -1,12 +1,6 @@
 use Rattle.matrix.specs.Words.{Filled}
 use Rattle.table.specs.Answers.{shown}
-use mathlib.Core.Path.{◌≡◌}
-use Prim.Native.Nat.{◌≤◌, ◌-◌}
-use lib.ListN.{length}
 use Rattle.matrix.proofs.fill.Given as goal
 
 abbrev pub invariant-loop-i : goal.invariant-loop-i
-invariant-loop-i l = (l.i ≤ l.count) × (l.count ≡ l.t.accesses) × (l.count ≤ 128) × (length l.rows ≡ 128) × (Filled (shown l.t l.s) l.same l.pre l.g l.i l.initial.rows l.rows)
-
-abbrev pub decreases-loop-i : goal.decreases-loop-i
-decreases-loop-i l = l.count - l.i
+invariant-loop-i l = Filled (shown l.t.table) l.same l.pre l.g l.i l.initial.rows l.rows

@@ -1,26 +1,13 @@
-use mathlib.Core.Path.{◌≡◌, sym, ◌∙◌}
-use native.Mathlib.Omega.{arith}
+use Rattle.std.proofs.Common.{rules, tests, refl, sym, ◌∙◌}
 use Rattle.table.specs.Answers.{shown}
 use Rattle.table.proofs.Shown.{nodes_shown}
-use Rattle.priorities.proofs.EachNode.{each_none, each_next, each_has, one_not}
+use Rattle.priorities.specs.Numbering.{may_have}
+use Rattle.priorities.proofs.EachNode.{all_pass, each_has}
 use Rattle.priorities.proofs.has_thresholds.Goals as goal
-
-pub loop-n-init : goal.loop-n-init
-loop-n-init c = (omega arith, c.wide-count.ensures.0 ∙ sym (nodes_shown _ _), each_none _)
-
-pub returns-then-not-may_have : goal.returns-then-not-may_have
-returns-then-not-may_have c =
-    let m = c.may_have in
-    one_not _ _ (omega arith) (sym m.ensures ∙ c.if-not-may_have.true)
-
-pub loop-n-preserved : goal.loop-n-preserved
-loop-n-preserved c =
-    let i = c.loop-n.invariant in
-    let m = c.may_have in
-    (omega arith, i.1, each_next _ _ i.2 (sym m.ensures ∙ c.if-not-may_have.false))
 
 pub returns : goal.returns
 returns c =
-    let a = c.args in
-    let z : c.loop-n.n ≡ (shown a.t a.s.now).tree.nodes = omega arith in
-    each_has _ (rw z at c.loop-n.invariant.2)
+    let t = c.args.t.now in
+    all_pass (may_have (shown t).tree) _ _ _ _ c.all.result c.all.ensures.ran refl (c.from.ensures ∙ sym (nodes_shown t))
+    (λ x b q k. search (rules, tests))
+    ∙ each_has (shown t).tree

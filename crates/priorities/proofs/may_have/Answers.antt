@@ -1,34 +1,43 @@
-use borrow.Author.Tests.{ne_eqb}
+use mathlib.Core.Path.{refl, sym}
+use mathlib.Core.Bool.{true}
+use borrow.Author.Tests.{eqb-true, ne_eqb}
+use Rattle.rules.proofs.Bools.{or_left, or_right}
 use Rattle.priorities.specs.Numbering.{may_have}
+use Rattle.table.proofs.KindLaws.{time_sliced_is, time_sliced_not, task_is, task_not, preemptive_is, preemptive_not}
 use Rattle.priorities.proofs.may_have.Goals as goal
 
-pub returns-then-k-eq-TIME_SLICED : goal.returns-then-k-eq-TIME_SLICED
+pub returns-in-TimeSliced : goal.returns-in-TimeSliced
 unfolding may_have
-returns-then-k-eq-TIME_SLICED c =
-    let k = c.kind-k in
-    rw (← k.ensures, c.if-k-eq-TIME_SLICED.true)
+returns-in-TimeSliced c = rw (time_sliced_is _ c.in-TimeSliced.ensures)
+
+pub returns-in-Task : goal.returns-in-Task
+unfolding may_have
+returns-in-Task c =
+    let z = eqb-true _ _ (task_is _ c.in-Task.ensures) in
+    rw z (sym (or_left _ _ (or_right _ true refl)))
 
 pub returns-then-n-eq0 : goal.returns-then-n-eq0
 unfolding may_have
-returns-then-n-eq0 c =
-    let k = c.kind-k in
-    rw (← k.ensures, ne_eqb _ _ c.if-k-eq-TIME_SLICED.false, c.if-n-eq0.true)
+returns-then-n-eq0 c = rw (time_sliced_not _ _ c.kind.ensures c.in_default.not-TimeSliced, c.if-n-eq0.true)
 
-pub returns-then-k-eq-TASK : goal.returns-then-k-eq-TASK
+pub returns-in-Preemptive : goal.returns-in-Preemptive
 unfolding may_have
-returns-then-k-eq-TASK c =
-    let k = c.kind-k in
-    rw (← k.ensures, ne_eqb _ _ c.if-k-eq-TIME_SLICED.false, ne_eqb _ _ c.if-n-eq0.false, c.if-k-eq-TASK.true)
-
-pub returns : goal.returns
-unfolding may_have
-returns c =
-    let k = c.kind-k in
+returns-in-Preemptive c =
     rw (
-      ← k.ensures,
-      ne_eqb _ _ c.if-k-eq-TIME_SLICED.false,
+      time_sliced_not _ _ c.kind.ensures c.in_default.not-TimeSliced,
       ne_eqb _ _ c.if-n-eq0.false,
-      ne_eqb _ _ c.if-k-eq-TASK.false,
+      task_not _ _ c.kind.ensures c.in_default.not-Task,
       ← c.parent.ensures.0,
-      c.kind.ensures,
+      preemptive_is _ c.in-Preemptive.ensures,
+    )
+
+pub returns-in_default-matches : goal.returns-in_default-matches
+unfolding may_have
+returns-in_default-matches c =
+    rw (
+      time_sliced_not _ _ c.kind.ensures c.in_default.not-TimeSliced,
+      ne_eqb _ _ c.if-n-eq0.false,
+      task_not _ _ c.kind.ensures c.in_default.not-Task,
+      ← c.parent.ensures.0,
+      preemptive_not _ _ c.kind-else-n-eq0.ensures c.in_default-matches.not-Preemptive,
     )

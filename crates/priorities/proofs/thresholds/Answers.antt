@@ -1,13 +1,11 @@
+use mathlib.Core.Path.{◌∙◌}
+use Rattle.table.proofs.Results.{goes_out}
 use Rattle.table.proofs.Told.{told_table, told_fault}
-use Rattle.priorities.proofs.WholeCall.{call_refused}
+use Rattle.priorities.proofs.WholeCall.{call_refused, call_read}
 use Rattle.priorities.proofs.thresholds.Goals as goal
 
-pub number-requires : goal.number-requires
-number-requires c =
-    told_table _ _ c.read-a.ensures _ c.in-Read.is
+pub returns-in_err-t : goal.returns-in_err-t
+returns-in_err-t c = rw (goes_out _ _ c.from_residual.ensures.1) (call_refused _ _ _ (told_fault _ _ c.in_err-t.ensures.table))
 
-pub returns-in-Read : goal.returns-in-Read
-returns-in-Read c = c.number.ensures
-
-pub returns-in-Refused : goal.returns-in-Refused
-returns-in-Refused c = call_refused _ _ _ (told_fault _ _ c.read-a.ensures _ c.in-Refused.is)
+pub returns : goal.returns
+returns c = c.number.ensures ∙ call_read _ _ _ (told_table _ _ c.in_ok-t.ensures.table)

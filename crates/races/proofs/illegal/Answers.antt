@@ -1,18 +1,12 @@
--- A table that was read is accepted and stands in the bytes, as the list asks.
-use Rattle.races.specs.Answers.{left}
-use Rattle.rules.specs.Calls.{illegal_call, reading}
-use Rattle.table.proofs.Told.{told_table, told_fault, told_accepted, told_stands}
+-- The bytes are read first; then the list is that of the table.
+use mathlib.Core.Path.{◌∙◌}
+use Rattle.table.proofs.Results.{goes_out}
+use Rattle.table.proofs.Told.{told_table, told_fault}
+use Rattle.races.proofs.ListAnswers.{illegal_refused, illegal_read}
 use Rattle.races.proofs.illegal.Goals as goal
 
-pub returns-in-Refused : goal.returns-in-Refused
-unfolding left illegal_call reading
-returns-in-Refused c = rw (told_fault _ _ c.read-a.ensures _ c.in-Refused.is)
+pub returns-in_err-t : goal.returns-in_err-t
+returns-in_err-t c = rw (goes_out _ _ c.from_residual.ensures.1) (illegal_refused _ _ _ (told_fault _ _ c.in_err-t.ensures.table))
 
-pub list_illegal-requires : goal.list_illegal-requires
-list_illegal-requires c =
-    (told_accepted _ _ c.read-a.ensures _ c.in-Read.is, told_stands _ _ c.read-a.ensures _ c.in-Read.is)
-
-pub returns-in-Read : goal.returns-in-Read
-unfolding illegal_call reading
-returns-in-Read c =
-    rw (told_table _ _ c.read-a.ensures _ c.in-Read.is) c.list_illegal.ensures
+pub returns : goal.returns
+returns c = c.list_illegal.ensures ∙ illegal_read _ _ _ (told_table _ _ c.in_ok-t.ensures.table)

@@ -1,29 +1,10 @@
+-- What the first loop read is the part, and the second loop wrote it.
 use native.Mathlib.Omega.{arith}
-use lib.ListN.{length-set}
-use Rattle.store.proofs.Parts.{eight_stores}
+use Rattle.store.proofs.Parts.{part_read}
 use Rattle.store.proofs.store_eight.Goals as goal
-
-pub bounds-out-k-2 : goal.bounds-out-k-2
-bounds-out-k-2 c = simp length-set (omega arith)
-
-pub bounds-out-k-3 : goal.bounds-out-k-3
-bounds-out-k-3 c = simp length-set (omega arith)
-
-pub bounds-out-k-4 : goal.bounds-out-k-4
-bounds-out-k-4 c = simp length-set (omega arith)
-
-pub bounds-out-k-5 : goal.bounds-out-k-5
-bounds-out-k-5 c = simp length-set (omega arith)
-
-pub bounds-out-k-6 : goal.bounds-out-k-6
-bounds-out-k-6 c = simp length-set (omega arith)
-
-pub bounds-out-k-7 : goal.bounds-out-k-7
-bounds-out-k-7 c = simp length-set (omega arith)
-
-pub bounds-out-k-8 : goal.bounds-out-k-8
-bounds-out-k-8 c = simp length-set (omega arith)
 
 pub returns : goal.returns
 returns c =
-    eight_stores _ _ _ _ c.requires.0
+    let a = c.args in
+    let l = c.loop-i in
+    rw (part_read a.from.now l.eight a.at 8 c.loop-i-2.i (omega arith) l.invariant.0 c.requires.0 (λ j h. l.invariant.1 j (omega arith))) at c.loop-i-2.invariant

@@ -1,10 +1,7 @@
 use Rattle.tree.proofs.Turns.{below_here, below_top, below_up}
 use native.Mathlib.Omega.{arith}
-use mathlib.Core.Path.{refl, ◌∙◌}
+use mathlib.Core.Path.{◌∙◌}
 use Rattle.tree.proofs.at_or_below.Goals as goal
-
-pub loop-at-init : goal.loop-at-init
-loop-at-init c = (omega arith, refl)
 
 pub returns-then-at-p : goal.returns-then-at-p
 returns-then-at-p c =

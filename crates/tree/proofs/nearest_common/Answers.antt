@@ -1,10 +1,7 @@
 use Rattle.tree.proofs.Turns.{nearest_none, nearest_here, nearest_up}
 use native.Mathlib.Omega.{arith}
-use mathlib.Core.Path.{refl, ◌∙◌}
+use mathlib.Core.Path.{◌∙◌}
 use Rattle.tree.proofs.nearest_common.Goals as goal
-
-pub loop-at-init : goal.loop-at-init
-loop-at-init c = (omega arith, refl)
 
 pub returns-then-at-p : goal.returns-then-at-p
 returns-then-at-p c = (nearest_none _ _ _ (rw c.parent-p.ensures.0 at c.if-at-p.true) ∙ c.loop-at.invariant.1, omega arith)

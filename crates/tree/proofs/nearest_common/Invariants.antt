@@ -6,7 +6,7 @@ use Prim.Native.Nat.{◌≤◌}
 use Rattle.tree.proofs.nearest_common.Given as goal
 
 abbrev pub invariant-loop-at : goal.invariant-loop-at
-invariant-loop-at l = (l.at ≤ l.u) × (nearest_common (shown l.t l.s).tree l.x l.at ≡ nearest_common (shown l.t l.s).tree l.x l.u)
+invariant-loop-at l = (l.at ≤ l.u) × (nearest_common (shown l.t).tree l.x l.at ≡ nearest_common (shown l.t).tree l.x l.u)
 
 abbrev pub decreases-loop-at : goal.decreases-loop-at
 decreases-loop-at l = l.at

@@ -1,17 +1,15 @@
 use Rattle.rules.specs.Calls.{step_call, reading}
-use Rattle.table.proofs.Told.{told_table, told_fault, told_accepted}
+use Rattle.table.proofs.Results.{goes_out}
+use Rattle.table.proofs.Told.{told_table, told_fault}
+use Rattle.machine.specs.Answers.{left}
 use Rattle.machine.proofs.State.step.Goals as goal
 
-pub returns-in-Refused : goal.returns-in-Refused
-unfolding step_call reading
-returns-in-Refused c =
-    rw (told_fault _ _ c.read-a.ensures _ c.in-Refused.is) c.refused.ensures
+pub returns-in_err-t : goal.returns-in_err-t
+unfolding left step_call reading
+returns-in_err-t c =
+    rw (goes_out _ _ c.from_residual.ensures.1, told_fault _ _ c.in_err-t.ensures.table)
 
-pub played-requires : goal.played-requires
-played-requires c =
-    told_accepted _ _ c.read-a.ensures _ c.in-Read.is
-
-pub returns-in-Read : goal.returns-in-Read
+pub returns : goal.returns
 unfolding step_call reading
-returns-in-Read c =
-    rw (told_table _ _ c.read-a.ensures _ c.in-Read.is) c.played.ensures
+returns c =
+    rw (told_table _ _ c.in_ok-t.ensures.table) c.played.ensures

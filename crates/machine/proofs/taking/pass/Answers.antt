@@ -1,4 +1,4 @@
-use mathlib.Core.Path.{refl, sym, ◌∙◌}
+use mathlib.Core.Path.{refl}
 use native.Mathlib.Omega.{arith}
 use Rattle.table.proofs.Shown.{nodes_shown}
 use Rattle.machine.specs.OtherTasks.{held_below}
@@ -8,17 +8,20 @@ use Rattle.machine.proofs.taking.pass.Goals as goal
 
 pub loop-u-init : goal.loop-u-init
 unfolding held_below
-loop-u-init c = (omega arith, c.wide-count.ensures.0 ∙ sym (nodes_shown _ _), all_yet _, refl)
+loop-u-init c = (all_yet _, refl)
 
-pub returns-in_default : goal.returns-in_default
-returns-in_default c =
-    one_keeps _ _ _ _ (rw c.loop-u.invariant.1 at c.loop-u-test.true) (kept _ _ c.one_more-all.ensures c.in_default.is)
+pub returns-in_err-set : goal.returns-in_err-set
+returns-in_err-set c =
+    rw c.from_residual.ensures
+    (one_keeps _ _ _ _ (omega (arith, nodes_shown c.args.t.now.table)) (rw c.from-place.ensures at (kept _ _ c.in_err-set.ensures)))
 
 pub loop-u-preserved : goal.loop-u-preserved
 loop-u-preserved c =
     let i = c.loop-u.invariant in
-    let y = yielded _ _ c.one_more-all.ensures c.in-Yield.is in
-    (omega arith, i.1, all_here _ _ i.2 y.0, one_more_holds _ _ _ _ _ _ i.3 y.1)
+    let y = yielded _ _ (rw c.from-place.ensures at c.in_ok-set.ensures) in
+    (all_here _ _ i.0 y.0, one_more_holds _ _ _ _ _ _ i.1 y.1)
 
 pub returns : goal.returns
-returns c = let i = c.loop-u.invariant in all_yield _ _ _ _ _ (omega arith) i.2 i.3
+returns c =
+    let i = c.loop-u.invariant in
+    all_yield _ _ _ _ _ (omega (arith, nodes_shown c.args.t.now.table)) i.0 i.1

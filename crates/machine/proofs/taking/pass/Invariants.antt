@@ -1,5 +1,4 @@
 -- All before u yield, and together hold these locks.
-use Prim.Native.Nat.{◌-◌, ◌≤◌}
 use mathlib.Core.Path.{◌≡◌}
 use mathlib.Core.Bool.{true}
 use Rattle.rules.specs.Bounded.{all_below}
@@ -9,7 +8,4 @@ use Rattle.machine.specs.OtherTasks.{yields, held_below}
 use Rattle.machine.proofs.taking.pass.Given as goal
 
 abbrev pub invariant-loop-u : goal.invariant-loop-u
-invariant-loop-u l = (l.u ≤ l.count) × (l.count ≡ (shown l.t l.s).tree.nodes) × (all_below l.u (λ k. yields (shown l.t l.s) l.x k (place l.p k)) ≡ true) × (l.locks ≡ held_below l.u (shown l.t l.s) l.p l.x)
-
-abbrev pub decreases-loop-u : goal.decreases-loop-u
-decreases-loop-u l = l.count - l.u
+invariant-loop-u l = (all_below l.u (λ k. yields (shown l.t.table) l.x k (place l.p k)) ≡ true) × (l.locks ≡ held_below l.u (shown l.t.table) l.p l.x)

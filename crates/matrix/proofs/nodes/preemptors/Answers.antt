@@ -1,42 +1,23 @@
 use Rattle.matrix.proofs.Passing.{pre_first, seen_first, pre_next, seen_next, pre_all}
+use lib.ListN.{length-set}
 use Rattle.table.proofs.Shown.{nodes_shown}
 use native.Mathlib.Omega.{arith}
-use mathlib.Core.Path.{refl, ap}
-use lib.ListN.{length, length-set}
+use mathlib.Core.Path.{refl}
 use Rattle.matrix.proofs.nodes.preemptors.Goals as goal
 
 pub loop-c-init : goal.loop-c-init
-loop-c-init c = (
-  omega arith,
-  c.wide-count.ensures.0,
-  ap length c.requires.1,
-  refl,
-  pre_first _ c.requires.0.tree _ _ c.requires.1,
-  seen_first _ c.requires.0.tree _,
-)
-
-pub parent_of-p-requires : goal.parent_of-p-requires
-parent_of-p-requires c = (c.requires.0, omega arith, omega arith, c.requires.2)
-
-pub node-k-requires : goal.node-k-requires
-node-k-requires c = (omega arith, c.requires.2)
-
-pub step_down-requires : goal.step_down-requires
-step_down-requires c = tt
+loop-c-init c = let ok = c.args.t.now.accepted.tree in (refl, pre_first _ ok _ _ c.requires, seen_first _ ok _)
 
 pub loop-c-preserved : goal.loop-c-preserved
 loop-c-preserved c =
-    let l = c.loop-c in
-    let ok = c.requires.0.tree in
+    let ok = c.args.t.now.accepted.tree in
     let e = c.parent_of-p.ensures.0 in
-    let i = l.invariant in (
-      omega arith,
-      i.1,
-      rw length-set i.2,
-      rw length-set i.3,
-      pre_next _ ok _ (omega arith) (omega (arith, nodes_shown c.args.t c.args.s.now)) e c.node-k.ensures.1 (omega arith) c.step_down.ensures i.4 i.5,
-      seen_next _ ok _ (omega arith) (omega (arith, nodes_shown c.args.t c.args.s.now)) e (omega arith) i.5,
+    let i = c.loop-c.invariant in
+    let n = nodes_shown c.args.t.now.table in (
+      rw length-set i.0,
+      pre_next _ ok _ (omega arith) (omega (arith, n)) e refl (omega arith) (c.step_down.ensures _ c.node-kind.ensures.1) i.1 i.2,
+      seen_next _ ok _ (omega arith) (omega (arith, n)) e (omega arith) i.2,
     )
 
 pub returns : goal.returns
-returns c = pre_all _ c.requires.0.tree _ (omega (arith, nodes_shown c.args.t c.args.s.now)) c.loop-c.invariant.4
+returns c = pre_all _ c.args.t.now.accepted.tree _ (omega (arith, nodes_shown c.args.t.now.table)) c.loop-c.invariant.1

@@ -1,27 +1,25 @@
 use Rattle.matrix.specs.Words.{step_down}
+use Rattle.table.proofs.KindLaws.{preemptive_is, preemptive_not, time_sliced_is, time_sliced_not}
+use mathlib.Core.Path.{sym, ◌∙◌}
 use Rattle.rows.proofs.Bits.{has_and, has_or, has_not}
-use borrow.Author.Tests.{eq-eqb, ne_eqb}
 use Rattle.matrix.proofs.nodes.step_down.Goals as goal
 
-pub returns-then-k-eq-PREEMPTIVE : goal.returns-then-k-eq-PREEMPTIVE
+pub returns-in-Preemptive : goal.returns-in-Preemptive
 unfolding step_down
-returns-then-k-eq-PREEMPTIVE c = record { bits = λ j h. rw (eq-eqb _ _ c.if-k-eq-PREEMPTIVE.true) (has_or j _ _) }
+returns-in-Preemptive c k e = record { bits = λ j h. rw (preemptive_is _ (sym c.in-Preemptive.is ∙ e)) (has_or j _ _) }
 
-pub returns-then-k-eq-TIME_SLICED : goal.returns-then-k-eq-TIME_SLICED
+pub returns-in-TimeSliced : goal.returns-in-TimeSliced
 unfolding step_down
-returns-then-k-eq-TIME_SLICED c =
+returns-in-TimeSliced c k e =
     let a = c.args in
+    let own = sym c.in-TimeSliced.is ∙ e in
     record {
       bits = λ j h.
-          rw (
-            ne_eqb _ _ c.if-k-eq-PREEMPTIVE.false,
-            eq-eqb _ _ c.if-k-eq-TIME_SLICED.true,
-            has_or j a.over _,
-            has_and j a.all _,
-            has_not 64 j a.own h c.ranges.own.fits,
-          );
+          rw (preemptive_not _ _ own (λ p. cc), time_sliced_is _ own, has_or j a.over _, has_and j _ _, has_not 64 j a.own h c.ranges.own.fits);
     }
 
-pub returns : goal.returns
+pub returns-in_default : goal.returns-in_default
 unfolding step_down
-returns c = record { bits = λ j h. rw (ne_eqb _ _ c.if-k-eq-PREEMPTIVE.false, ne_eqb _ _ c.if-k-eq-TIME_SLICED.false) }
+returns-in_default c k e =
+    let d = c.in_default in
+    record { bits = λ j h. rw (preemptive_not _ _ e d.not-Preemptive, time_sliced_not _ _ e d.not-TimeSliced) }

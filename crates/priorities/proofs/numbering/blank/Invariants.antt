@@ -1,5 +1,5 @@
 -- The nodes below n show 255, 255, and the bytes after them are as at entry.
-use Prim.Native.Nat.{◌*◌, ◌-◌, ◌≤◌}
+use Prim.Native.Nat.{◌*◌}
 use mathlib.Core.Path.{◌≡◌}
 use mathlib.Core.List.{◌++◌}
 use lib.ListN.{length, drop}
@@ -7,7 +7,4 @@ use Rattle.rules.specs.Priorities.{shown, unwalked}
 use Rattle.priorities.proofs.numbering.blank.Given as goal
 
 abbrev pub invariant-loop-n : goal.invariant-loop-n
-invariant-loop-n l = (l.n ≤ l.count) × (length l.out ≡ length l.initial.out) × (l.out ≡ shown unwalked l.n ++ drop (l.n * 2) l.initial.out)
-
-abbrev pub decreases-loop-n : goal.decreases-loop-n
-decreases-loop-n l = l.count - l.n
+invariant-loop-n l = (length l.out ≡ length l.initial.out) × (l.out ≡ shown unwalked l.n ++ drop (l.n * 2) l.initial.out)

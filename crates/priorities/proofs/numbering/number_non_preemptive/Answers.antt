@@ -8,41 +8,32 @@ use Rattle.priorities.proofs.numbering.number_non_preemptive.Goals as goal
 
 pub loop-j-init : goal.loop-j-init
 loop-j-init c =
-    let n = nodes_shown c.args.t c.args.s.now in
-    (omega arith, omega (arith, c.requires.ready.known), c.wide-count.ensures.0 ∙ sym n, two_none _ _ _ _ c.requires.ready c.requires.of_kind)
+    two_none _ _ _ _ c.requires.ready c.requires.of_kind
 
 pub give-requires : goal.give-requires
 give-requires c =
+    let n = nodes_shown c.args.t.now in
     let i = c.loop-j.invariant in
     let r = c.requires.ready in
     let e = sym c.is_child.ensures ∙ c.if-is_child.true in
-    omega (arith, two_few _ _ _ _ r c.requires.of_kind _ _ _ i.3 e, i.3.size, r.room, r.rooted.few)
+    omega (arith, two_few _ _ _ _ r c.requires.of_kind _ _ _ i e, i.size, r.room, r.rooted.few)
 
 pub overflow_add-next : goal.overflow_add-next
 overflow_add-next c =
     let i = c.loop-j.invariant in
-    omega (arith, two_few _ _ _ _ c.requires.ready c.requires.of_kind _ _ _ i.3 (sym c.is_child.ensures ∙ c.if-is_child.true))
+    omega (arith, two_few _ _ _ _ c.requires.ready c.requires.of_kind _ _ _ i (sym c.is_child.ensures ∙ c.if-is_child.true))
 
 pub loop-j-preserved : goal.loop-j-preserved
 loop-j-preserved c =
     let i = c.loop-j.invariant in
     elim c.if-is_child.branch [
-      | then-is_child w ↦ (
-        omega arith,
-        omega arith,
-        i.2,
-        rw (w.out-is, w.next-is, w.give.ensures) (two_child _ _ _ _ c.requires.ready c.requires.of_kind _ _ _ i.3 (sym c.is_child.ensures ∙ w.if-is_child.true)),
-      )
-      | else-is_child w ↦ (
-        omega arith,
-        omega arith,
-        i.2,
-        rw (w.out-is, w.next-is) (two_other _ _ _ _ c.requires.ready c.requires.of_kind _ _ _ i.3 (sym c.is_child.ensures ∙ w.if-is_child.false)),
-      )
+      | then-is_child w ↦ rw (w.out-is, w.next-is, w.give.ensures) (two_child _ _ _ _ c.requires.ready c.requires.of_kind _ _ _ i (sym c.is_child.ensures ∙ w.if-is_child.true))
+      | else-is_child w ↦ rw (w.out-is, w.next-is) (two_other _ _ _ _ c.requires.ready c.requires.of_kind _ _ _ i (sym c.is_child.ensures ∙ w.if-is_child.false))
     ]
 
 pub returns : goal.returns
 returns c =
     let l = c.loop-j in
-    let z : l.j ≡ (shown c.args.t c.args.s.now).tree.nodes = omega arith in
-    two_end _ _ _ _ c.requires.ready c.requires.of_kind _ _ (rw z at l.invariant.3)
+    let n = nodes_shown c.args.t.now in
+    let z : l.j ≡ (shown c.args.t.now).tree.nodes = omega (arith, c.requires.ready.known) in
+    two_end _ _ _ _ c.requires.ready c.requires.of_kind _ _ (rw z at l.invariant)

@@ -5,4 +5,4 @@ use Rattle.table.proofs.Table.access.Goals as goal
 
 pub returns : goal.returns
 unfolding shown table_at
-returns c = rw (← c.access_at-at.ensures) (search rules)
+returns c = rw (← c.access_at-at.ensures.0) (search rules)

@@ -1,37 +1,39 @@
 use Rattle.table.proofs.Shown.{counts_shown, resources_shown, locks_shown}
-use Rattle.table.specs.Answers.{shown, checked, number, place}
+use Rattle.table.specs.Answers.{shown, checked, number, numbered}
 use Rattle.rules.specs.Reading.{access_check, due, unless, ◌and_then◌, access_fault}
 use borrow.Author.Tests.{le-leb, lt-leb, lt-ltb, le-ltb}
 use native.Mathlib.Omega.{arith}
 use Prim.Native.Nat.{◌<◌, ◌≤◌}
 use Rattle.table.proofs.Table.check_access.Goals as goal
 
-pub returns-then-s-at : goal.returns-then-s-at
-unfolding checked number place shown access_check due unless ◌and_then◌
-returns-then-s-at c = rw (← c.access_at-at.ensures, lt-leb _ _ c.if-s-at.true)
+pub returns-then-self-at : goal.returns-then-self-at
+unfolding checked number numbered shown access_check due unless ◌and_then◌
+returns-then-self-at c = rw (c.at.ensures, ← c.access_at-at.ensures.0, lt-leb _ _ c.if-self-at.true)
 
 pub returns-then-not-is_task : goal.returns-then-not-is_task
-unfolding checked number place shown access_check due unless ◌and_then◌ access_fault
+unfolding checked number numbered shown access_check due unless ◌and_then◌ access_fault
 returns-then-not-is_task c =
     rw (
+      c.at-then-not-is_task.ensures,
       counts_shown,
-      ← c.access_at-at.ensures,
-      le-leb _ _ c.if-s-at.false,
+      ← c.access_at-at.ensures.0,
+      le-leb _ _ c.if-self-at.false,
       ← c.task_of.ensures.0,
-      ← c.is_task.ensures,
+      ← c.is_task.ensures.0,
       c.if-not-is_task.true,
     )
 
-pub returns-then-wide-resource_of : goal.returns-then-wide-resource_of
-unfolding checked number place shown access_check due unless ◌and_then◌ access_fault
-returns-then-wide-resource_of c =
-    let h : c.args.self.resources ≤ c.resource_of.result = omega arith in
+pub returns-then-from-resource_of : goal.returns-then-from-resource_of
+unfolding checked number numbered shown access_check due unless ◌and_then◌ access_fault
+returns-then-from-resource_of c =
+    let h : c.args.self.now.resources ≤ c.resource_of.result = omega arith in
     rw (
+      c.at-then-from-resource_of.ensures,
       counts_shown,
-      ← c.access_at-at.ensures,
-      le-leb _ _ c.if-s-at.false,
+      ← c.access_at-at.ensures.0,
+      le-leb _ _ c.if-self-at.false,
       ← c.task_of.ensures.0,
-      ← c.is_task.ensures,
+      ← c.is_task.ensures.0,
       c.if-not-is_task.false,
       ← c.resource_of.ensures.0,
       resources_shown,
@@ -39,15 +41,16 @@ returns-then-wide-resource_of c =
     )
 
 pub returns-then-not-set_within : goal.returns-then-not-set_within
-unfolding checked number place shown access_check due unless ◌and_then◌ access_fault
+unfolding checked number numbered shown access_check due unless ◌and_then◌ access_fault
 returns-then-not-set_within c =
-    let h : c.resource_of.result < c.args.self.resources = omega arith in
+    let h : c.resource_of.result < c.args.self.now.resources = omega arith in
     rw (
+      c.at-then-not-set_within.ensures,
       counts_shown,
-      ← c.access_at-at.ensures,
-      le-leb _ _ c.if-s-at.false,
+      ← c.access_at-at.ensures.0,
+      le-leb _ _ c.if-self-at.false,
       ← c.task_of.ensures.0,
-      ← c.is_task.ensures,
+      ← c.is_task.ensures.0,
       c.if-not-is_task.false,
       ← c.resource_of.ensures.0,
       resources_shown,
@@ -59,15 +62,15 @@ returns-then-not-set_within c =
     )
 
 pub returns : goal.returns
-unfolding checked number place shown access_check due unless ◌and_then◌ access_fault
+unfolding checked number numbered shown access_check due unless ◌and_then◌ access_fault
 returns c =
-    let h : c.resource_of.result < c.args.self.resources = omega arith in
+    let h : c.resource_of.result < c.args.self.now.resources = omega arith in
     rw (
       counts_shown,
-      ← c.access_at-at.ensures,
-      le-leb _ _ c.if-s-at.false,
+      ← c.access_at-at.ensures.0,
+      le-leb _ _ c.if-self-at.false,
       ← c.task_of.ensures.0,
-      ← c.is_task.ensures,
+      ← c.is_task.ensures.0,
       c.if-not-is_task.false,
       ← c.resource_of.ensures.0,
       resources_shown,

@@ -1,13 +1,13 @@
 use Rattle.rules.specs.Reading.{covered_right}
-use borrow.Author.Tests.{eq-eqb, ne_eqb}
+use Rattle.table.proofs.KindLaws.{blocking_is, blocking_not}
 use Rattle.table.proofs.Table.covered_right.Goals as goal
 
-pub returns-then-lock_kind-eq-BLOCKING : goal.returns-then-lock_kind-eq-BLOCKING
+pub returns-in-Blocking : goal.returns-in-Blocking
 unfolding covered_right
-returns-then-lock_kind-eq-BLOCKING c = rw (← c.lock_kind.ensures, eq-eqb _ _ c.if-lock_kind-eq-BLOCKING.true, c.covered-c.ensures.0)
+returns-in-Blocking c = rw (blocking_is _ c.in-Blocking.ensures, c.covered-c.ensures.0)
 
-pub returns : goal.returns
+pub returns-in_default : goal.returns-in_default
 unfolding covered_right
-returns c =
-    rw (← c.lock_kind.ensures, ne_eqb _ _ c.if-lock_kind-eq-BLOCKING.false, ← c.covered-c.ensures.0, ← c.provider.ensures.0)
+returns-in_default c =
+    rw (blocking_not _ _ c.lock_kind.ensures c.in_default.not-Blocking, ← c.covered-c.ensures.0, ← c.provider.ensures.0)
     c.is_child.ensures

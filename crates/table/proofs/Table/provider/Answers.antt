@@ -4,4 +4,4 @@ use Rattle.table.proofs.Table.provider.Goals as goal
 
 pub returns : goal.returns
 unfolding shown table_at
-returns c = rw (← c.lock_at.ensures) c.number_at.ensures
+returns c = rw (← c.lock_at.ensures.0) c.number_at.ensures

@@ -1,60 +1,92 @@
--- Section after section: what is told from the next one on is told from this one on, and the first refusal is the answer.
-use Rattle.table.proofs.Chain.{from_nodes, from_locks, from_resources, from_accesses, from_end, next, stop, whole}
+-- Section after section: those before the first fault pass, and it is the answer; where all pass, the table is the one that stands in the bytes.
+use Rattle.table.proofs.Results.{goes_out}
+use mathlib.Core.Path.{◌≡◌, sym}
+use Rattle.rules.specs.Reading.{read, Is, counts_in, table_at}
+use Rattle.table.specs.Answers.{shown}
+use Rattle.table.specs.Read.{told}
+use Rattle.table.proofs.Chain.{after, ends, refused, is_read, kept, whole}
 use Rattle.table.proofs.Table.read.Goals as goal
 
-pub returns-in_default : goal.returns-in_default
-unfolding from_nodes from_locks from_resources from_accesses from_end
-returns-in_default c =
-    let s = c.args.s.now in
-    whole s _ _ c.counted-t.ensures
-    (stop _ _ _ _ c.form_section-a.ensures _ (from_nodes s _) c.in_default.is)
+pub returns-in_err-form_section-clause-table : goal.returns-in_err-form_section-clause-table
+unfolding told
+returns-in_err-form_section-clause-table c =
+    rw (goes_out _ _ c.from_residual.ensures.1)
+    (refused c.args.bytes c.counted-table.result c.counted-table.ensures _
+    (ends _ _ _ c.in_err-form_section.ensures))
 
-pub returns-in_default-a : goal.returns-in_default-a
-unfolding from_nodes from_locks from_resources from_accesses from_end
-returns-in_default-a c =
-    let s = c.args.s.now in
-    whole s _ _ c.counted-t.ensures
-    (next _ _ _ _ c.form_section-a.ensures _ _ (from_nodes s) c.in-Read.is
-    (stop _ _ _ _ c.node_section-a.ensures _ (from_locks s _) c.in_default-a.is))
+pub returns-in_err-node_section-clause-table : goal.returns-in_err-node_section-clause-table
+unfolding told
+returns-in_err-node_section-clause-table c =
+    rw (goes_out _ _ c.from_residual-in_err-node_section.ensures.1)
+    (refused c.args.bytes c.counted-table.result c.counted-table.ensures _
+    (after _ _ _ _ c.in_ok-form_section.ensures
+    (ends _ _ _ c.in_err-node_section.ensures)))
 
-pub returns-in_default-a-2 : goal.returns-in_default-a-2
-unfolding from_nodes from_locks from_resources from_accesses from_end
-returns-in_default-a-2 c =
-    let s = c.args.s.now in
-    whole s _ _ c.counted-t.ensures
-    (next _ _ _ _ c.form_section-a.ensures _ _ (from_nodes s) c.in-Read.is
-    (next _ _ _ _ c.node_section-a.ensures _ _ (from_locks s) c.in-Read-a.is
-    (stop _ _ _ _ c.lock_section-a.ensures _ (from_resources s _) c.in_default-a-2.is)))
+pub returns-in_err-lock_section-clause-table : goal.returns-in_err-lock_section-clause-table
+unfolding told
+returns-in_err-lock_section-clause-table c =
+    rw (goes_out _ _ c.from_residual-in_err-lock_section.ensures.1)
+    (refused c.args.bytes c.counted-table.result c.counted-table.ensures _
+    (after _ _ _ _ c.in_ok-form_section.ensures
+    (after _ _ _ _ c.in_ok-node_section.ensures
+    (ends _ _ _ c.in_err-lock_section.ensures))))
 
-pub returns-in_default-a-3 : goal.returns-in_default-a-3
-unfolding from_nodes from_locks from_resources from_accesses from_end
-returns-in_default-a-3 c =
-    let s = c.args.s.now in
-    whole s _ _ c.counted-t.ensures
-    (next _ _ _ _ c.form_section-a.ensures _ _ (from_nodes s) c.in-Read.is
-    (next _ _ _ _ c.node_section-a.ensures _ _ (from_locks s) c.in-Read-a.is
-    (next _ _ _ _ c.lock_section-a.ensures _ _ (from_resources s) c.in-Read-a-2.is
-    (stop _ _ _ _ c.resource_section-a.ensures _ (from_accesses s _) c.in_default-a-3.is))))
+pub returns-in_err-resource_section-clause-table : goal.returns-in_err-resource_section-clause-table
+unfolding told
+returns-in_err-resource_section-clause-table c =
+    rw (goes_out _ _ c.from_residual-in_err-resource_section.ensures.1)
+    (refused c.args.bytes c.counted-table.result c.counted-table.ensures _
+    (after _ _ _ _ c.in_ok-form_section.ensures
+    (after _ _ _ _ c.in_ok-node_section.ensures
+    (after _ _ _ _ c.in_ok-lock_section.ensures
+    (ends _ _ _ c.in_err-resource_section.ensures)))))
 
-pub returns-in_default-a-4 : goal.returns-in_default-a-4
-unfolding from_nodes from_locks from_resources from_accesses from_end
-returns-in_default-a-4 c =
-    let s = c.args.s.now in
-    whole s _ _ c.counted-t.ensures
-    (next _ _ _ _ c.form_section-a.ensures _ _ (from_nodes s) c.in-Read.is
-    (next _ _ _ _ c.node_section-a.ensures _ _ (from_locks s) c.in-Read-a.is
-    (next _ _ _ _ c.lock_section-a.ensures _ _ (from_resources s) c.in-Read-a-2.is
-    (next _ _ _ _ c.resource_section-a.ensures _ _ (from_accesses s) c.in-Read-a-3.is
-    (stop _ _ _ _ c.access_section-a.ensures _ (from_end s _) c.in_default-a-4.is)))))
+pub returns-in_err-access_section-clause-table : goal.returns-in_err-access_section-clause-table
+unfolding told
+returns-in_err-access_section-clause-table c =
+    rw (goes_out _ _ c.from_residual-in_err-access_section.ensures.1)
+    (refused c.args.bytes c.counted-table.result c.counted-table.ensures _
+    (after _ _ _ _ c.in_ok-form_section.ensures
+    (after _ _ _ _ c.in_ok-node_section.ensures
+    (after _ _ _ _ c.in_ok-lock_section.ensures
+    (after _ _ _ _ c.in_ok-resource_section.ensures
+    (ends _ _ _ c.in_err-access_section.ensures))))))
 
-pub returns : goal.returns
-unfolding from_nodes from_locks from_resources from_accesses from_end
-returns c =
-    let s = c.args.s.now in
-    whole s _ _ c.counted-t.ensures
-    (next _ _ _ _ c.form_section-a.ensures _ _ (from_nodes s) c.in-Read.is
-    (next _ _ _ _ c.node_section-a.ensures _ _ (from_locks s) c.in-Read-a.is
-    (next _ _ _ _ c.lock_section-a.ensures _ _ (from_resources s) c.in-Read-a-2.is
-    (next _ _ _ _ c.resource_section-a.ensures _ _ (from_accesses s) c.in-Read-a-3.is
-    (next _ _ _ _ c.access_section-a.ensures _ _ (from_end s) c.in-Read-a-4.is
-    c.end_section.ensures)))))
+pub returns-in_err-end_section-clause-table : goal.returns-in_err-end_section-clause-table
+unfolding told
+returns-in_err-end_section-clause-table c =
+    rw (goes_out _ _ c.from_residual-in_err-end_section.ensures.1)
+    (refused c.args.bytes c.counted-table.result c.counted-table.ensures _
+    (after _ _ _ _ c.in_ok-form_section.ensures
+    (after _ _ _ _ c.in_ok-node_section.ensures
+    (after _ _ _ _ c.in_ok-lock_section.ensures
+    (after _ _ _ _ c.in_ok-resource_section.ensures
+    (after _ _ _ _ c.in_ok-access_section.ensures
+    c.in_err-end_section.ensures))))))
+
+-- The bytes are the table that stands in them.
+pub returns-clause-table : goal.returns-clause-table
+unfolding told
+returns-clause-table c =
+    is_read c.args.bytes c.counted-table.result c.counted-table.ensures _
+    (after _ _ _ _ c.in_ok-form_section.ensures
+    (after _ _ _ _ c.in_ok-node_section.ensures
+    (after _ _ _ _ c.in_ok-lock_section.ensures
+    (after _ _ _ _ c.in_ok-resource_section.ensures
+    (after _ _ _ _ c.in_ok-access_section.ensures
+    c.in_ok-end_section.ensures)))))
+
+pub invariant_of-result : goal.invariant_of-result
+unfolding counts_in shown table_at
+invariant_of-result c =
+    let q : read c.args.bytes.now ≡ Is (shown c.counted-table.result) = sym (is_read c.args.bytes c.counted-table.result c.counted-table.ensures _
+    (after _ _ _ _ c.in_ok-form_section.ensures
+    (after _ _ _ _ c.in_ok-node_section.ensures
+    (after _ _ _ _ c.in_ok-lock_section.ensures
+    (after _ _ _ _ c.in_ok-resource_section.ensures
+    (after _ _ _ _ c.in_ok-access_section.ensures
+    c.in_ok-end_section.ensures)))))) in
+    record {
+      accepted = kept c.args.bytes c.counted-table.result c.counted-table.ensures q;
+      stands = whole c.args.bytes c.counted-table.result c.counted-table.ensures q;
+    }

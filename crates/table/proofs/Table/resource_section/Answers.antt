@@ -1,20 +1,21 @@
-use Rattle.table.specs.Answers.{told}
+use Rattle.table.proofs.Results.{goes_out}
+use Rattle.table.specs.Answers.{checked, number, numbered}
 use Rattle.table.proofs.SectionLaws.{count_stops, resources_short, resources_pass}
 use Rattle.rules.specs.Reading.{resource_section}
 use Rattle.table.proofs.Table.resource_section.Goals as goal
 
-pub returns-in-Bad : goal.returns-in-Bad
+pub returns-in_err-check_count : goal.returns-in_err-check_count
 unfolding resource_section
-returns-in-Bad c =
-    count_stops _ _ _ _ _ _ _ (rw c.resources_at.ensures at c.check_count-c.ensures) c.in-Bad.is
+returns-in_err-check_count c =
+    rw (goes_out _ _ c.from_residual.ensures.1) (count_stops _ _ _ _ (rw c.resources_at.ensures.0 at c.in_err-check_count.ensures))
 
-pub returns-then-s-accesses_at : goal.returns-then-s-accesses_at
-returns-then-s-accesses_at c =
-    resources_short _ _ _ _ (rw c.resources_at.ensures at c.check_count-c.ensures) c.in_default.is
-    (rw c.accesses_at.ensures at c.if-s-accesses_at.true)
+pub returns-then-self-accesses_at : goal.returns-then-self-accesses_at
+unfolding checked number numbered
+returns-then-self-accesses_at c =
+    rw c.at.ensures
+    (resources_short _ _ _ (rw c.resources_at.ensures.0 at c.in_ok-check_count.ensures) (rw c.accesses_at.ensures.0 at c.if-self-accesses_at.true))
 
 pub returns : goal.returns
-unfolding told
+unfolding checked
 returns c =
-    resources_pass _ _ _ _ (rw c.resources_at.ensures at c.check_count-c.ensures) c.in_default.is
-    (rw c.accesses_at.ensures at c.if-s-accesses_at.false)
+    resources_pass _ _ _ (rw c.resources_at.ensures.0 at c.in_ok-check_count.ensures) (rw c.accesses_at.ensures.0 at c.if-self-accesses_at.false)

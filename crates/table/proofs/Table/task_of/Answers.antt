@@ -4,4 +4,4 @@ use Rattle.table.proofs.Table.task_of.Goals as goal
 
 pub returns : goal.returns
 unfolding shown table_at
-returns c = rw (← c.access_at.ensures) c.number_at.ensures
+returns c = rw (← c.access_at.ensures.0) c.number_at.ensures

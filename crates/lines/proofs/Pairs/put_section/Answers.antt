@@ -1,0 +1,25 @@
+-- The first line is written, and then all rows as one piece.
+use native.Mathlib.Omega.{arith}
+use borrow.Author.Rules.{rules}
+use Rattle.table.proofs.Bounds.{few_accesses_lem}
+use Rattle.lines.proofs.SectionPieces.{one_piece}
+use Rattle.lines.proofs.SectionTexts.{section_wrote, none_wrote, lines_left}
+use Rattle.lines.proofs.Pairs.put_section.Goals as goal
+
+pub count-count-requires : goal.count-count-requires
+count-count-requires c = omega (arith, few_accesses_lem _ c.args.self.now.accepted)
+
+pub returns-then-count-eq0 : goal.returns-then-count-eq0
+returns-then-count-eq0 c =
+    none_wrote _ _ _ (rw c.from-n.ensures at c.count-count.ensures) c.if-count-eq0.true (search rules)
+
+pub put_rows-requires : goal.put_rows-requires
+put_rows-requires c =
+    let e = c.from-n.ensures in
+    rw c.of.ensures
+    (omega arith, rw (e, one_piece) (lines_left _ _ _ (rw e at c.count-count.ensures) c.requires.2 (search rules)))
+
+pub returns : goal.returns
+returns c =
+    let e = c.from-n.ensures in
+    section_wrote _ _ _ (rw e at c.count-count.ensures) (search rules) (rw (c.of.ensures, e, one_piece) at c.put_rows.ensures)

@@ -1,6 +1,0 @@
-use native.Mathlib.Nat.{one-mul, mod-eq_of_lt}
-use lib.Pow.{pow-lt}
-use Rattle.matrix.proofs.single.one_lock.Goals as goal
-
-pub returns : goal.returns
-returns c = rw one-mul (mod-eq_of_lt (pow-lt {j = 32} c.requires))

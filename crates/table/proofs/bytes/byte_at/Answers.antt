@@ -1,7 +1,0 @@
--- Past its end a list shows 0.
-use mathlib.Core.Path.{sym}
-use lib.ListN.{get_or-eq_default}
-use Rattle.table.proofs.bytes.byte_at.Goals as goal
-
-pub returns : goal.returns
-returns c = sym (get_or-eq_default c.args.s.now 0 c.if-p-s.false)
