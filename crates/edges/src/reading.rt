@@ -1,4 +1,6 @@
 // Reading at its edges: both sides of every limit, the longest table and a byte more, and table W damaged.
+ghost use Rattle.std.specs.Prelude.{◌≤◌};
+
 use std::io::{self, Write};
 use table::Table;
 
@@ -21,7 +23,8 @@ fn put(b: &mut [u8], at: usize, v: u8) {
     }
 }
 
-// Of zeros a table with n nodes: tasks below a root of kind k.
+// Of zeros a table with n nodes: tasks below a root of kind k, which is the table's byte, since bytes are what is read here. The tables below are each
+// made for one limit; one function for all would take more numbers than it has lines, and be no plainer.
 fn start(b: &mut [u8], n: u8, k: u8) {
     put(b, 0, 1);
     put(b, 1, n);
@@ -35,20 +38,14 @@ fn nodes(to: &mut impl Write, name: &str, n: u8) -> io::Result<()> {
     show(to, name, &b[..usize::from(n) * 2 + 5])
 }
 
-// A root with k blocking locks, and nothing else.
-fn locks(to: &mut impl Write, name: &str, k: u8) -> io::Result<()> {
+// A root with n records of a section whose count stands at a place, each of so many zeros, and nothing else: blocking locks, or resources.
+fn records(to: &mut impl Write, name: &str, at: usize, n: u8, size: usize) -> io::Result<()>
+    requires { size ≤ 3 }
+{
     let mut b = [0u8; 900];
     start(&mut b, 1, 1);
-    put(&mut b, 4, k);
-    show(to, name, &b[..usize::from(k) * 3 + 7])
-}
-
-// A root with r resources, and nothing else.
-fn resources(to: &mut impl Write, name: &str, r: u8) -> io::Result<()> {
-    let mut b = [0u8; 600];
-    start(&mut b, 1, 1);
-    put(&mut b, 5, r);
-    show(to, name, &b[..usize::from(r) * 2 + 7])
+    put(&mut b, at, n);
+    show(to, name, &b[..usize::from(n) * size + 7])
 }
 
 // A root that is a task, a resource, and a accesses.
@@ -91,10 +88,10 @@ pub fn run(to: &mut impl Write) -> io::Result<()> {
     nodes(to, "0 nodes", 0)?;
     nodes(to, "128 nodes", 128)?;
     nodes(to, "129 nodes", 129)?;
-    locks(to, "32 locks", 32)?;
-    locks(to, "33 locks", 33)?;
-    resources(to, "64 resources", 64)?;
-    resources(to, "65 resources", 65)?;
+    records(to, "32 locks", 4, 32, 3)?;
+    records(to, "33 locks", 4, 33, 3)?;
+    records(to, "64 resources", 5, 64, 2)?;
+    records(to, "65 resources", 5, 65, 2)?;
     accesses(to, "128 accesses", 128)?;
     accesses(to, "129 accesses", 129)?;
     longest(to)?;

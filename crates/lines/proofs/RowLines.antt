@@ -1,7 +1,7 @@
 -- The lines of rows of words: those of each row come after those of the rows before it, and those of one row are its head with the tails of its
 -- numbers.
 -- Assumes nothing.
-use Prim.Native.Nat.{ℕ, zero, suc, ◌+◌, ◌*◌, ◌-◌, ◌<◌, ◌≤◌}
+use Prim.Native.Nat.{ℕ, zero, suc, ◌+◌, ◌*◌, ◌-◌, ◌<◌, ◌≤◌, min}
 use mathlib.Core.Path.{◌≡◌, refl, ◌∙◌, ap}
 use mathlib.Core.List.{List, [], ◌∷◌, ◌++◌}
 use native.Mathlib.Numerals.{add-one}
@@ -31,7 +31,8 @@ module _ (g : Pair → List ℕ) (low high : List ℕ) (from : ℕ) where
   rows_grow i zero = let z : 0 + i ≡ i = omega arith in rw z (omega arith)
   rows_grow i (suc d) = let z : suc d + i ≡ d + i + 1 = omega arith in rw (z, rows_one (d + i), length-append) (omega (arith, rows_grow i d))
 
-  -- The turns: a row's lines are counted after those of the rows before it, and written after them, where there is room for all n.
+  -- The turns: a row's lines are counted after those of the rows before it, and written after them, where there is room for all n, or for 4,096
+  -- bytes a row.
   pub count_begins : 0 ≡ length (lines g (rows_from low high from 0))
   unfolding rows_from lines
   count_begins = refl
@@ -48,9 +49,10 @@ module _ (g : Pair → List ℕ) (low high : List ℕ) (from : ℕ) where
       → Wrote m at (lines g (row_of (get_or low (from + i) 0) (get_or high (from + i) 0) (from + i))) n r → Wrote l k (lines g (rows_from low high from (i + 1))) n r
   lines_go i f h = rw (rows_one i) (next f h)
 
-  pub lines_room : {l m : List ℕ} {k at : ℕ} (i n : ℕ) → i < n → k + length (lines g (rows_from low high from n)) ≤ length l
-      → Wrote l k (lines g (rows_from low high from i)) m at → at + length (lines g (row_of (get_or low (from + i) 0) (get_or high (from + i) 0) (from + i))) ≤ length m
-  lines_room i n h e f =
+  pub lines_room : {l m : List ℕ} {k at : ℕ} (i n : ℕ) → i < n → k + min (length (lines g (rows_from low high from n))) (4096 * n) ≤ length l
+      → Wrote l k (lines g (rows_from low high from i)) m at → at ≤ k + 4096 * i
+      → at + min (length (lines g (row_of (get_or low (from + i) 0) (get_or high (from + i) 0) (from + i)))) 4096 ≤ length m
+  lines_room i n h e f b =
       let z : n - (i + 1) + (i + 1) ≡ n = omega arith in
       let a = rw (rows_one i, length-append) at (rw z at (rows_grow (i + 1) (n - (i + 1)))) in
       omega (arith, a, e, f.place, same_room f)
@@ -111,7 +113,7 @@ module _ (which : Section) (t : Table) (i low high : ℕ) (lens : List ℕ) (wit
       each : (j : ℕ) → j < seconds which t → length (blank h lens j) ≡ length (pair_line which t (pair i j))
       each j l = rw (line_ends which t i j, length-append) (omega (arith, blank_length h lens j, f.each j l, e))
 
-  pub row_few : Lengths which t (seconds which t) lens → length (head_of which t i) ≤ 24 → length (lines (pair_line which t) (row_of low high i)) ≤ 4096
+  row_few : Lengths which t (seconds which t) lens → length (head_of which t i) ≤ 24 → length (lines (pair_line which t) (row_of low high i)) ≤ 4096
   row_few f l =
       let h = length (head_of which t i) in
       omega (arith, row_length f refl refl refl, blanks_few h lens l f.short 64 0 low, blanks_few h lens l f.short 64 64 high)
@@ -126,7 +128,9 @@ module _ (which : Section) (t : Table) (i low high : ℕ) (lens : List ℕ) (wit
       each : (j : ℕ) → j < seconds which t → pair_line which t (pair i j) ≡ line_at head lens tails j
       each j l = line_ends which t i j ∙ (unfold line_at in rw (e, f.each j l))
 
-  -- So where the first n bytes that were written are the head.
-  pub row_whole : {l m : List ℕ} {r : ℕ} (n : ℕ) (tails : List ℕ) → n ≡ r → Wrote l 0 (head_of which t i) m r → r ≤ length l → Tails which t (seconds which t) lens tails
-      → lines (pair_line which t) (row_of low high i) ≡ bit_lines (line_at (take n m) lens tails) 64 0 low ++ bit_lines (line_at (take n m) lens tails) 64 64 high
-  row_whole {m = m} n tails e w h f = row_text (take n m) tails f (head_made n e w (omega (arith, w.place)))
+  -- So where the first n bytes that were written are the head, of at most 24 bytes.
+  pub row_whole : {l m : List ℕ} {r : ℕ} (n : ℕ) (tails : List ℕ) → n ≡ r → Wrote l 0 (head_of which t i) m r → r ≤ length l → r ≤ 24 → Lengths which t (seconds which t) lens → Tails which t (seconds which t) lens tails
+      → (lines (pair_line which t) (row_of low high i) ≡ bit_lines (line_at (take n m) lens tails) 64 0 low ++ bit_lines (line_at (take n m) lens tails) 64 64 high)
+      × (length (lines (pair_line which t) (row_of low high i)) ≤ 4096)
+  row_whole {m = m} n tails e w h s g f =
+      (row_text (take n m) tails f (head_made n e w (omega (arith, w.place))), row_few g (omega (arith, w.place)))

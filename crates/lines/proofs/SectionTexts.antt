@@ -1,6 +1,6 @@
 -- A section: the line with the number of its pairs, and then their lines; counted, and written. The two sections are the text.
 -- Assumes nothing.
-use Prim.Native.Nat.{ℕ, ◌+◌, ◌≤◌}
+use Prim.Native.Nat.{ℕ, ◌+◌, ◌≤◌, min}
 use mathlib.Core.Path.{◌≡◌}
 use mathlib.Core.List.{List, [], ◌∷◌, append-nil}
 use native.Mathlib.Omega.{arith}
@@ -36,9 +36,9 @@ module _ (word : List ℕ) (g : Pair → List ℕ) (ps : List Pair) {n : ℕ} (e
   none_wrote z a = rw (no_lines g ps e z, append-nil, ← e) a
 
   -- After the first line there is room for the others.
-  pub lines_left : {l m : List ℕ} {k w : ℕ} → k + length (section word g ps) ≤ length l → Wrote l k (line word (n ∷ [])) m w → w + length (lines g ps) ≤ length m
+  pub lines_left : {l m : List ℕ} {k w : ℕ} (most : ℕ) → k + length (section word g ps) ≤ length l → Wrote l k (line word (n ∷ [])) m w → w + min (length (lines g ps)) most ≤ length m
   unfolding section
-  lines_left h a = let b = rw (length-append, ← e) at h in omega (arith, b, a.place, same_room a)
+  lines_left most h a = let b = rw (length-append, ← e) at h in omega (arith, b, a.place, same_room a)
 
 module _ (t : Table) (ps qs : List Pair) where
   pub text_counted : {a b : ℕ} → a ≡ length (section (codes "races") (pair_line Races t) ps) → b ≡ length (section (codes "illegal") (pair_line Illegals t) qs) → a + b ≡ length (text t ps qs)

@@ -1,18 +1,18 @@
-// The two sections of the listing: the number of pairs, and then a line for each, stored whole.
+// The two sections of the listing: the number of pairs, and then a line for each, stored whole, or the lines of a few accesses at a time for a caller
+// with little room.
 #![tactic(auto)]
 
 mod ends;
 mod measure;
-mod pieces;
 mod storing;
 
-ghost use Rattle.std.specs.Prelude.{◌≡◌, ◌+◌, ◌≤◌, length};
-ghost use Rattle.rules.specs.Listing.{section};
+ghost use Rattle.std.specs.Prelude.{◌≡◌, ◌+◌, ◌*◌, ◌≤◌, length};
+ghost use Rattle.rules.specs.Listing.{section, lines};
 ghost use Rattle.rules.specs.Accepted.{Accepted};
 ghost use Rattle.table.specs.Answers.{shown};
 ghost use Rattle.table.specs.OneProof.{accepted_prop};
 ghost use Rattle.rows.specs.Writing.{Wrote, rows_of};
-ghost use Rattle.lines.specs.Lines.{pair_line, RowsWithin};
+ghost use Rattle.lines.specs.Lines.{pair_line, RowsWithin, rows_from};
 ghost use Rattle.lines.specs.OneProof.{rows_prop};
 
 use ends::Ends;
@@ -54,6 +54,7 @@ impl Pairs<'_> {
         first + Measured::of(self).rows_length()
     }
 
+    // The section, from byte k on.
     #[tactic(auto, using(table::proofs::Bounds::few_accesses_lem))]
     pub fn put_section(&self, out: &mut [u8], k: usize, word: &[u8]) -> usize
         requires { (k ≤ 600000) × (length word.now ≤ 8) × (k + length (section word.now (pair_line self.now.which (shown self.now.t)) (rows_of self.now.rows.now.low self.now.rows.now.high self.now.t.accesses)) ≤ length out.old) }
@@ -68,5 +69,13 @@ impl Pairs<'_> {
             return w;
         }
         Ends::of(self).put_rows(out, w, 0, n)
+    }
+
+    // The lines of the n accesses from `from` on: 4,096 bytes are room for those of any access.
+    pub fn put_some(&self, out: &mut [u8], from: usize, n: usize) -> usize
+        requires { (from + n ≤ self.now.t.accesses) × (4096 * n ≤ length out.old) }
+        ensures { Wrote out.old 0 (lines (pair_line self.now.which (shown self.now.t)) (rows_from self.now.rows.now.low self.now.rows.now.high from n)) out.new result × (result ≤ 4096 * n) }
+    {
+        Ends::of(self).put_rows(out, 0, from, n)
     }
 }

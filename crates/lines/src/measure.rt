@@ -23,8 +23,8 @@ impl<'a> Measured<'a> {
         ensures { result.pairs ≡ pairs.now }
     {
         let mut lens = [0; 128];
-        for j in 0..pairs.which.count_seconds(&pairs.t) {
-            lens[j] = pairs.which.tail_length(&pairs.t, j) as u8;
+        for j in 0..pairs.count_seconds() {
+            lens[j] = pairs.tail_length(j) as u8;
         }
         Measured {
             pairs: *pairs,
@@ -57,7 +57,7 @@ impl<'a> Measured<'a> {
         if count_row(low, high) == 0 {
             return 0;
         }
-        let h = pairs.which.head_length(&pairs.t, i);
+        let h = pairs.head_length(i);
         self.word_length(low, 0, h) + self.word_length(high, 64, h)
     }
 

@@ -1,6 +1,6 @@
-// The lines of rows of words, where there is room for them. The room is proved, so no byte is tested against the end as a pen tests it, and the
-// place is a number that the caller goes on with.
-ghost use Rattle.std.specs.Prelude.{◌≡◌, ◌+◌, ◌<◌, ◌≤◌, length, get_or};
+// The lines of rows of words, where there is room for them. A pen would test each byte against the end, where the room is
+// proved, and be no plainer than a place.
+ghost use Rattle.std.specs.Prelude.{◌≡◌, ◌+◌, ◌*◌, ◌<◌, ◌≤◌, min, length, get_or};
 ghost use Rattle.rules.specs.Listing.{lines};
 ghost use Rattle.table.specs.Answers.{shown};
 ghost use Rattle.rows.specs.Writing.{Wrote, row_of};
@@ -27,11 +27,11 @@ impl Ends<'_> {
         w
     }
 
-    // The lines of access i.
+    // The lines of access i, which 4,096 bytes are room for.
     #[tactic(auto, using(table::proofs::Bounds::few_accesses_lem))]
     fn put_row(&self, out: &mut [u8], k: usize, i: usize) -> usize
-        requires { (i < self.now.measured.pairs.t.accesses) × (k + length (lines (pair_line self.now.measured.pairs.which (shown self.now.measured.pairs.t)) (row_of (get_or self.now.measured.pairs.rows.now.low i 0) (get_or self.now.measured.pairs.rows.now.high i 0) i)) ≤ length out.old) }
-        ensures { Wrote out.old k (lines (pair_line self.now.measured.pairs.which (shown self.now.measured.pairs.t)) (row_of (get_or self.now.measured.pairs.rows.now.low i 0) (get_or self.now.measured.pairs.rows.now.high i 0) i)) out.new result }
+        requires { (i < self.now.measured.pairs.t.accesses) × (k + min (length (lines (pair_line self.now.measured.pairs.which (shown self.now.measured.pairs.t)) (row_of (get_or self.now.measured.pairs.rows.now.low i 0) (get_or self.now.measured.pairs.rows.now.high i 0) i))) 4096 ≤ length out.old) }
+        ensures { Wrote out.old k (lines (pair_line self.now.measured.pairs.which (shown self.now.measured.pairs.t)) (row_of (get_or self.now.measured.pairs.rows.now.low i 0) (get_or self.now.measured.pairs.rows.now.high i 0) i)) out.new result × (result ≤ k + 4096) }
     {
         let pairs = &self.measured.pairs;
         let low = pairs.rows.low[i];
@@ -40,7 +40,7 @@ impl Ends<'_> {
             return k;
         }
         let mut head = [0; 24];
-        let h = pairs.which.put_head(&pairs.t, i, &mut head);
+        let h = pairs.put_head(i, &mut head);
         let head = &head[..h];
         let w = self.put_bits(out, k, low, 0, head);
         self.put_bits(out, w, high, 64, head)
@@ -49,8 +49,8 @@ impl Ends<'_> {
     // The lines of the n accesses from `from` on.
     #[tactic(auto, using(table::proofs::Bounds::few_accesses_lem))]
     pub(crate) fn put_rows(&self, out: &mut [u8], k: usize, from: usize, n: usize) -> usize
-        requires { (from + n ≤ self.now.measured.pairs.t.accesses) × (k + length (lines (pair_line self.now.measured.pairs.which (shown self.now.measured.pairs.t)) (rows_from self.now.measured.pairs.rows.now.low self.now.measured.pairs.rows.now.high from n)) ≤ length out.old) }
-        ensures { Wrote out.old k (lines (pair_line self.now.measured.pairs.which (shown self.now.measured.pairs.t)) (rows_from self.now.measured.pairs.rows.now.low self.now.measured.pairs.rows.now.high from n)) out.new result }
+        requires { (from + n ≤ self.now.measured.pairs.t.accesses) × (k + min (length (lines (pair_line self.now.measured.pairs.which (shown self.now.measured.pairs.t)) (rows_from self.now.measured.pairs.rows.now.low self.now.measured.pairs.rows.now.high from n))) (4096 * n) ≤ length out.old) }
+        ensures { Wrote out.old k (lines (pair_line self.now.measured.pairs.which (shown self.now.measured.pairs.t)) (rows_from self.now.measured.pairs.rows.now.low self.now.measured.pairs.rows.now.high from n)) out.new result × (result ≤ k + 4096 * n) }
     {
         let mut w = k;
         for i in 0..n {

@@ -1,4 +1,5 @@
-// The listing of a table that is refused: its one line.
+// The listing of a table that is refused: its one line, byte for byte as `refused_line` has it. `Display` of a fault says nothing that a contract
+// could cite, and writes to no lent buffer.
 ghost use Rattle.std.specs.Prelude.{◌≡◌};
 ghost use Rattle.rules.specs.Listing.{refused_line, writing_text};
 ghost use Rattle.table.specs.Answers.{number, left};

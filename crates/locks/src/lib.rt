@@ -1,4 +1,5 @@
-// Lock sets: is a lock in a set, does a mask of it cover a task, do two sets share a blocking lock. The only room that knows bits.
+// Lock sets: is a lock in a set, does a mask of it cover a task, do two sets share a blocking lock. The only room that knows lock sets as bits.
+// The tests of sets take any table of at most 32 locks, accepted or not, and may not ask more.
 #![tactic(auto)]
 
 ghost use Rattle.std.specs.Prelude.{◌≡◌, ◌&&◌, ◌<◌, ◌≤◌, eqb};

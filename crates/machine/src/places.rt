@@ -27,6 +27,7 @@ impl From<u8> for Place {
     }
 }
 
+// No `From` the other way: a place inside an access above 253 has no byte.
 impl Place {
     #[tactic(auto, unfolding(crate::specs::Places::byte_of))]
     pub(crate) fn byte(self) -> u8

@@ -37,6 +37,7 @@ fn half_rows(half: &Half<'_>, b: u32, rows: &mut [u64; 128])
     requires { Blocking (shown half.now.t.table) half.now.t.table.locks b }
     ensures { HalfRows (shown half.now.t.table) half.now.base half.now.count rows.old rows.new }
 {
+    // Lent to what fills them, since an array handed back would be copied, and apart, since each is filled in a pass of its own.
     let mut sub = [0; 128];
     let mut same = [0; 64];
     let mut pre = [0; 128];

@@ -6,10 +6,9 @@ use mathlib.Core.Path.{◌≡◌, refl, sym, ◌∙◌, ap}
 use mathlib.Core.Bool.{Bool, true, false, cond}
 use mathlib.Core.List.{List, [], ◌∷◌, ◌++◌, append_assoc}
 use native.Mathlib.Decide.{ℕ_discrete}
-use native.Mathlib.Numerals.{add-one}
 use native.Mathlib.Omega.{arith}
-use lib.ListN.{length, drop, set, length-append, length-set}
-use lib.Seq.{drop-cons, set_at, set-append_left}
+use lib.ListN.{length, take, set, replicate, length-append, length-set}
+use lib.Seq.{set_at, set-append_left, length-take-le}
 use borrow.Author.Tests.{eq-eqb, ne_eqb}
 use Rattle.rules.specs.Table.{Tree}
 use Rattle.rules.specs.Priorities.{Walk, unwalked, given, moved_on, shown}
@@ -85,15 +84,15 @@ module _ {t : Tree} {rest out : List ℕ} {c : ℕ} {w : Walk} (s : Shows t rest
         counter = (unfold given in s.counter);
       }
 
--- The buffer before the walk: node after node is blanked.
-pub blank_none : (out : List ℕ) → out ≡ shown unwalked 0 ++ drop 0 out
-unfolding shown
-blank_none out = refl
+-- The buffer before the walk: one that has visited nothing shows 255, 255 for each node.
+more : (k v : ℕ) → replicate k v ++ (v ∷ v ∷ []) ≡ replicate (k + 2) v
+more zero v = refl
+more (suc k) v = let z : suc k + 2 ≡ suc (k + 2) = omega arith in rw z (ap (λ (l : List ℕ). v ∷ l) (more k v))
 
-pub blank_next : (out : List ℕ) (n : ℕ) → n * 2 + 2 ≤ length out
-    → set (set (shown unwalked n ++ drop (n * 2) out) (n * 2) 255) (n * 2 + 1) 255 ≡ shown unwalked (n + 1) ++ drop ((n + 1) * 2) out
+pub blanked : (n : ℕ) (out : List ℕ) → n * 2 ≤ length out → replicate (length (take (n * 2) out)) 255 ≡ shown unwalked n
 unfolding shown unwalked
-blank_next out n l =
-    let m : suc n * 2 ≡ suc (suc (n * 2)) = omega arith in
-    rw (drop-cons out (n * 2) 0 (omega arith), drop-cons out (suc (n * 2)) 0 (omega arith), add-one n, m)
-    (stored (shown unwalked n) _ _ 255 255 (n * 2) _ (length_shown unwalked n) ∙ sym (append_assoc (shown unwalked n) (255 ∷ 255 ∷ []) _))
+blanked n out h = rw (length-take-le (n * 2) out h) (all n)
+  where
+    all : (n : ℕ) → replicate (n * 2) 255 ≡ shown unwalked n
+    all zero = refl
+    all (suc n) = let m : suc n * 2 ≡ n * 2 + 2 = omega arith in rw (m, ← all n) (sym (more (n * 2) 255))

@@ -9,14 +9,15 @@ ghost use Rattle.priorities.specs.Numbering.{Ready, Visited};
 
 use table::{NodeKind, Table};
 
+// The table, the buffer, a node and the counter go from call to call. A struct of them would hold a `&mut` that each call lends on, and be no
+// plainer.
+
 // Every node shows 255, 255.
 pub(crate) fn blank(out: &mut [u8], count: usize)
     requires { (count ≤ 128) × (count * 2 ≤ length out.old) }
     ensures { out.new ≡ walks.shown unwalked count ++ drop (count * 2) out.old }
 {
-    for n in 0..count {
-        give(out, n, 255, 255);
-    }
+    out[..count * 2].fill(255);
 }
 
 // Node n shows priority p and threshold h.

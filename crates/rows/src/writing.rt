@@ -1,5 +1,5 @@
-// The pairs of a row of words into a lent buffer, two bytes a pair. The room is proved, so no byte is tested against the end as a pen tests it, and
-// the place is a number that the caller goes on with.
+// The pairs of a row of words into a lent buffer, two bytes a pair. The place goes on by two from word to word and from row to row, so no range and
+// no chunks of the buffer say it plainer; nor does a pen, which tests each byte against the end where the room is proved.
 ghost use Rattle.std.specs.Prelude.{◌≡◌, ◌+◌, ◌*◌, ◌≤◌, length};
 ghost use Rattle.rules.specs.Bounded.{bytes_of};
 ghost use Rattle.rows.specs.Writing.{Wrote, Counted, row_of, bit_pairs, run_pairs};
@@ -37,7 +37,7 @@ struct Word {
 }
 
 impl Word {
-    // Run by run, for words with many bits.
+    // Run by run, for words with many bits: a run moves on by its own length, so no range says it plainer.
     fn write_runs(self, out: &mut [u8], at: usize) -> usize
         requires { at + length (bit_pairs 64 self.i self.from self.bits) ≤ length out.old }
         ensures { Wrote out.old at (bit_pairs 64 self.i self.from self.bits) out.new result }

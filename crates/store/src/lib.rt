@@ -1,5 +1,5 @@
 // A whole line at once, where there is room: eight bytes at a time, so that the compiler makes one load and one store of them.
-// The room is proved, so no byte is tested against the end as a pen tests it, and the place is a number that the caller goes on with.
+// A pen would test each byte against the end, where the room is proved, and be no plainer than a place.
 #![tactic(auto)]
 
 ghost use Rattle.std.specs.Prelude.{◌≡◌, ◌++◌, ◌+◌, ◌-◌, ◌≤◌, length};

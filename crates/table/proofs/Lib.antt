@@ -2,6 +2,7 @@ pub mod Bounds
 mod Chain
 pub mod Faults
 mod FormLaws
+mod FourBytes
 pub mod KindLaws
 pub mod Lefts
 pub mod Results

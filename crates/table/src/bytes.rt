@@ -18,5 +18,5 @@ pub(crate) fn pair_at(bytes: &[u8], p: usize) -> usize
     requires { p < 65536 }
     ensures { (result ≡ two_bytes bytes.now p) × (result < 65536) }
 {
-    number_at(bytes, p) * 256 + number_at(bytes, p + 1)
+    usize::from(u16::from_be_bytes([byte_at(bytes, p), byte_at(bytes, p + 1)]))
 }

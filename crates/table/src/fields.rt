@@ -7,6 +7,7 @@ ghost use Rattle.table.specs.Kinds.{node_kind, lock_kind};
 use crate::bytes::{byte_at, number_at, pair_at};
 use crate::{LockKind, NodeKind, Table};
 
+// A getter takes any number that a byte can hold; a type of its own for each kind of number would ask more of callers, and may not.
 impl Table<'_> {
     pub(crate) fn locks_at(&self) -> usize
         ensures { (result ≡ locks_at self.now.nodes) × (result < 65536) }
@@ -108,6 +109,11 @@ impl Table<'_> {
         ensures { result ≡ (shown self.now).lock_set i }
     {
         let at = self.access_at(i) + 2;
-        (pair_at(self.bytes, at) * 65536 + pair_at(self.bytes, at + 2)) as u32
+        u32::from_be_bytes([
+            byte_at(self.bytes, at),
+            byte_at(self.bytes, at + 1),
+            byte_at(self.bytes, at + 2),
+            byte_at(self.bytes, at + 3),
+        ])
     }
 }

@@ -38,6 +38,7 @@ impl<'a> Table<'a> {
         Ok(())
     }
 
+    // The three sections with records to test differ in the test that they call; one for all would take it as a closure, and be no plainer.
     #[inline(never)]
     pub(crate) fn node_section(&self) -> Result<(), Fault>
         ensures { checked result ≡ node_section (counts self.now) self.now.bytes.now }

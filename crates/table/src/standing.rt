@@ -1,7 +1,6 @@
 // Whole records of a table that stands in its bytes from the first to the last: no byte is tested against the end. They ask for no more than
 // that it stands, so that they serve any table that does, accepted or not.
-ghost use Rattle.std.specs.Prelude.{◌≡◌, ◌+◌, ◌<◌, ◌≤◌, length};
-ghost use Rattle.rules.specs.Reading.{two_bytes};
+ghost use Rattle.std.specs.Prelude.{◌≡◌, ◌<◌};
 ghost use Rattle.table.specs.Answers.{shown, Stands};
 ghost use Rattle.table.specs.Kinds.{node_kind, lock_kind};
 
@@ -25,15 +24,6 @@ pub struct Access {
     pub task: usize,
     pub resource: usize,
     pub locks: u32,
-}
-
-// The two-byte number at p, high byte first. `pair_at` tests each byte against the end; one function for both would take a closure that reads a
-// byte, and be no plainer.
-fn pair(bytes: &[u8], p: usize) -> usize
-    requires { (p < 65536) × (p + 2 ≤ length bytes.now) }
-    ensures { (result ≡ two_bytes bytes.now p) × (result < 65536) }
-{
-    usize::from(bytes[p]) * 256 + usize::from(bytes[p + 1])
 }
 
 impl Table<'_> {
@@ -68,7 +58,12 @@ impl Table<'_> {
         Access {
             task: usize::from(self.bytes[at]),
             resource: usize::from(self.bytes[at + 1]),
-            locks: (pair(self.bytes, at + 2) * 65536 + pair(self.bytes, at + 4)) as u32,
+            locks: u32::from_be_bytes([
+                self.bytes[at + 2],
+                self.bytes[at + 3],
+                self.bytes[at + 4],
+                self.bytes[at + 5],
+            ]),
         }
     }
 }

@@ -17,9 +17,9 @@ pub put_rows-requires : goal.put_rows-requires
 put_rows-requires c =
     let e = c.from-n.ensures in
     rw c.of.ensures
-    (omega arith, rw (e, one_piece) (lines_left _ _ _ (rw e at c.count-count.ensures) c.requires.2 (search rules)))
+    (omega arith, rw (e, one_piece) (lines_left _ _ _ (rw e at c.count-count.ensures) _ c.requires.2 (search rules)))
 
 pub returns : goal.returns
 returns c =
     let e = c.from-n.ensures in
-    section_wrote _ _ _ (rw e at c.count-count.ensures) (search rules) (rw (c.of.ensures, e, one_piece) at c.put_rows.ensures)
+    section_wrote _ _ _ (rw e at c.count-count.ensures) (search rules) (rw (c.of.ensures, e, one_piece) at c.put_rows.ensures.0)

@@ -1,19 +1,12 @@
-use mathlib.Core.Path.{◌≡◌, refl, ◌∙◌, ap}
-use lib.ListN.{length, length-set}
-use native.Mathlib.Omega.{arith}
-use Rattle.priorities.proofs.ShownWalks.{blank_none, blank_next}
+-- The bytes that are filled are those that a walk shows which has visited nothing.
+use mathlib.Core.Path.{◌∙◌, ap}
+use mathlib.Core.List.{List, ◌++◌}
+use Prim.Native.Nat.{ℕ, ◌*◌}
+use lib.ListN.{drop}
+use Rattle.priorities.proofs.ShownWalks.{blanked}
 use Rattle.priorities.proofs.numbering.blank.Goals as goal
-
-pub loop-n-init : goal.loop-n-init
-loop-n-init c = (refl, blank_none _)
-
-pub loop-n-preserved : goal.loop-n-preserved
-loop-n-preserved c =
-    let i = c.loop-n.invariant in
-    let g = c.give in
-    (ap length g.ensures ∙ simp length-set i.0, g.ensures ∙ rw i.1 (blank_next _ _ (omega arith)))
 
 pub returns : goal.returns
 returns c =
-    let z : c.loop-n.n ≡ c.args.count = omega arith in
-    rw z at c.loop-n.invariant.1
+    let a = c.args in
+    ap (λ (l : List ℕ). l ++ drop (a.count * 2) a.out.now) (c.fill.ensures.after (λ y e. e) ∙ blanked a.count a.out.now c.requires.1)

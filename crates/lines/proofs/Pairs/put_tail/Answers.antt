@@ -3,7 +3,7 @@ use mathlib.Core.Path.{◌∙◌}
 use Rattle.rules.specs.Listing.{fields, line}
 use Rattle.rows.proofs.Written.{next}
 use Rattle.lines.specs.Lines.{tail_of}
-use Rattle.lines.proofs.Section.put_tail.Goals as goal
+use Rattle.lines.proofs.Pairs.put_tail.Goals as goal
 
 pub returns-in-Races : goal.returns-in-Races
 unfolding tail_of
