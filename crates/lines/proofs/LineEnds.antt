@@ -66,6 +66,10 @@ race_head_few t i a b c =
 illegal_head_few : (t : Table) (i : ℕ) → i < 128 → t.task_of i < 256 → length (head_of Illegals t i) ≤ 24
 illegal_head_few t i b c = omega (arith, illegal_head_length t i, decimal_few i 2 (omega arith), decimal_few (t.task_of i) 2 (omega arith))
 
+pub head_few : (which : Section) (t : Table) (i : ℕ) → t.label (t.resource_of i) < 65536 → i < 128 → t.task_of i < 256 → length (head_of which t i) ≤ 24
+head_few Races t i a b c = race_head_few t i a b c
+head_few Illegals t i a b c = illegal_head_few t i b c
+
 pub race_head_fits : (t : Table) (i : ℕ) {l m : List ℕ} {r : ℕ} → t.label (t.resource_of i) < 65536 → i < 128 → t.task_of i < 256
     → Wrote l 0 (head_of Races t i) m r → Wrote l 0 (head_of Races t i) m r × (8 ≤ r) × (r ≤ 24)
 race_head_fits t i a b c w = (w, omega (arith, w.place, race_head_length t i), omega (arith, w.place, race_head_few t i a b c))

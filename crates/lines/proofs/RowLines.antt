@@ -74,10 +74,10 @@ blank_length h lens j = length-replicate (h + get_or lens j 0) 0
 pub blanks_few : (h : ℕ) (lens : List ℕ) → h ≤ 24 → Short lens → (d j x : ℕ) → length (bit_lines (blank h lens) d j x) ≤ d * 32
 blanks_few h lens l s = few_bytes (blank h lens) 32 (λ j. omega (arith, blank_length h lens j, s.few j))
 
-blank_first : (h : ℕ) (lens : List ℕ) (j : ℕ) (rest : List ℕ) → length (blank h lens j ++ rest) ≡ h + get_or lens j 0 + length rest
+pub blank_first : (h : ℕ) (lens : List ℕ) (j : ℕ) (rest : List ℕ) → length (blank h lens j ++ rest) ≡ h + get_or lens j 0 + length rest
 blank_first h lens j rest = rw (length-append, blank_length) (omega arith)
 
-line_length : (head lens tails : List ℕ) (j : ℕ) → 8 * j + 8 ≤ length tails → Short lens
+pub line_length : (head lens tails : List ℕ) (j : ℕ) → 8 * j + 8 ≤ length tails → Short lens
     → length (line_at head lens tails j) ≡ length head + get_or lens j 0
 unfolding line_at tail_at
 line_length head lens tails j c s =
@@ -95,7 +95,7 @@ module _ (from x z y : ℕ) (e : set_bits x ≡ z ∷ set_bits y) (lens : List �
       omega (arith, n, rw length-append at (ap length (first_line (line_at head lens tails) from x z y e)))
 
 -- What was written from the start on is the first r bytes.
-head_made : {l vs m : List ℕ} {r : ℕ} (n : ℕ) → n ≡ r → Wrote l 0 vs m r → length vs ≤ length l → take n m ≡ vs
+pub head_made : {l vs m : List ℕ} {r : ℕ} (n : ℕ) → n ≡ r → Wrote l 0 vs m r → length vs ≤ length l → take n m ≡ vs
 unfolding part
 head_made {l} {vs} n e w h =
     let z : 0 + length vs ≡ length vs = omega arith in
@@ -113,7 +113,7 @@ module _ (which : Section) (t : Table) (i low high : ℕ) (lens : List ℕ) (wit
       each : (j : ℕ) → j < seconds which t → length (blank h lens j) ≡ length (pair_line which t (pair i j))
       each j l = rw (line_ends which t i j, length-append) (omega (arith, blank_length h lens j, f.each j l, e))
 
-  row_few : Lengths which t (seconds which t) lens → length (head_of which t i) ≤ 24 → length (lines (pair_line which t) (row_of low high i)) ≤ 4096
+  pub row_few : Lengths which t (seconds which t) lens → length (head_of which t i) ≤ 24 → length (lines (pair_line which t) (row_of low high i)) ≤ 4096
   row_few f l =
       let h = length (head_of which t i) in
       omega (arith, row_length f refl refl refl, blanks_few h lens l f.short 64 0 low, blanks_few h lens l f.short 64 64 high)

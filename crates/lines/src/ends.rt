@@ -74,24 +74,21 @@ impl Pairs<'_> {
     }
 }
 
-// The tails of a section, each at the end of its eight bytes.
-#[derive(Drop)]
+// The tails of a section, each at the end of its eight bytes. They are lent, as their lengths are.
+#[derive(Clone, Copy)]
 pub(crate) struct Ends<'a> {
     pub(crate) measured: Measured<'a>,
-    pub(crate) tails: [u8; 1024],
-    pub(crate) ghost made: { Tails measured.pairs.which (shown measured.pairs.t) (seconds measured.pairs.which (shown measured.pairs.t)) measured.lens tails } by { tails_prop measured.pairs.which (shown measured.pairs.t) (seconds measured.pairs.which (shown measured.pairs.t)) measured.lens tails },
+    pub(crate) tails: &'a [u8; 1024],
+    pub(crate) ghost made: { Tails measured.pairs.which (shown measured.pairs.t) (seconds measured.pairs.which (shown measured.pairs.t)) measured.lens.now tails.now } by { tails_prop measured.pairs.which (shown measured.pairs.t) (seconds measured.pairs.which (shown measured.pairs.t)) measured.lens.now tails.now },
 }
 
-impl<'a> Ends<'a> {
-    pub(crate) fn of(pairs: &Pairs<'a>) -> Ends<'a>
-        ensures { result.measured.pairs ≡ pairs.now }
+impl Measured<'_> {
+    pub(crate) fn put_tails(&self, tails: &mut [u8; 1024])
+        ensures { Tails self.now.pairs.which (shown self.now.pairs.t) (seconds self.now.pairs.which (shown self.now.pairs.t)) self.now.lens.now tails.new }
     {
-        let measured = Measured::of(pairs);
-        let mut tails = [0; 1024];
-        for j in 0..pairs.count_seconds() {
-            let n = usize::from(measured.lens[j]);
-            pairs.put_tail(j, &mut Pen::new(&mut tails, 8 * j + 8 - n));
+        for j in 0..self.pairs.count_seconds() {
+            let n = usize::from(self.lens[j]);
+            self.pairs.put_tail(j, &mut Pen::new(tails, 8 * j + 8 - n));
         }
-        Ends { measured, tails }
     }
 }

@@ -6,7 +6,7 @@ mod ends;
 mod measure;
 mod storing;
 
-ghost use Rattle.std.specs.Prelude.{◌≡◌, ◌+◌, ◌*◌, ◌≤◌, length};
+ghost use Rattle.std.specs.Prelude.{◌≡◌, ◌+◌, ◌*◌, ◌≤◌, min, length};
 ghost use Rattle.rules.specs.Listing.{section, lines};
 ghost use Rattle.rules.specs.Accepted.{Accepted};
 ghost use Rattle.table.specs.Answers.{shown};
@@ -51,7 +51,33 @@ impl Pairs<'_> {
         if count == 0 {
             return first;
         }
-        first + Measured::of(self).rows_length()
+        let mut lens = [0; 128];
+        self.measure_tails(&mut lens);
+        let measured = Measured {
+            pairs: *self,
+            lens: &lens,
+        };
+        first + measured.rows_length()
+    }
+
+    // The lines of the n accesses from `from` on, from byte k on.
+    fn put_lines(&self, out: &mut [u8], k: usize, from: usize, n: usize) -> usize
+        requires { (from + n ≤ self.now.t.accesses) × (k + min (length (lines (pair_line self.now.which (shown self.now.t)) (rows_from self.now.rows.now.low self.now.rows.now.high from n))) (4096 * n) ≤ length out.old) }
+        ensures { Wrote out.old k (lines (pair_line self.now.which (shown self.now.t)) (rows_from self.now.rows.now.low self.now.rows.now.high from n)) out.new result × (result ≤ k + 4096 * n) }
+    {
+        let mut lens = [0; 128];
+        self.measure_tails(&mut lens);
+        let measured = Measured {
+            pairs: *self,
+            lens: &lens,
+        };
+        let mut tails = [0; 1024];
+        measured.put_tails(&mut tails);
+        let ends = Ends {
+            measured,
+            tails: &tails,
+        };
+        ends.put_rows(out, k, from, n)
     }
 
     // The section, from byte k on.
@@ -68,7 +94,7 @@ impl Pairs<'_> {
         if count == 0 {
             return w;
         }
-        Ends::of(self).put_rows(out, w, 0, n)
+        self.put_lines(out, w, 0, n)
     }
 
     // The lines of the n accesses from `from` on: 4,096 bytes are room for those of any access.
@@ -76,6 +102,6 @@ impl Pairs<'_> {
         requires { (from + n ≤ self.now.t.accesses) × (4096 * n ≤ length out.old) }
         ensures { Wrote out.old 0 (lines (pair_line self.now.which (shown self.now.t)) (rows_from self.now.rows.now.low self.now.rows.now.high from n)) out.new result × (result ≤ 4096 * n) }
     {
-        Ends::of(self).put_rows(out, 0, from, n)
+        self.put_lines(out, 0, from, n)
     }
 }

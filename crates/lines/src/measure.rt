@@ -1,5 +1,5 @@
 // How many bytes the lines of rows of words take: counted from the lengths of their heads and tails, nothing is written.
-ghost use Rattle.std.specs.Prelude.{◌≡◌, ◌+◌, ◌<◌, ◌≤◌, length, get_or};
+ghost use Rattle.std.specs.Prelude.{◌≡◌, ◌+◌, ◌<◌, ◌≤◌, length, get_or, replicate};
 ghost use Rattle.rules.specs.Listing.{lines};
 ghost use Rattle.table.specs.Answers.{shown};
 ghost use Rattle.rows.specs.Writing.{row_of, rows_of};
@@ -10,33 +10,31 @@ use crate::Pairs;
 use rows::set_bits::bits;
 use rows::writing::count_row;
 
-// The length of each tail of a section.
-#[derive(Drop)]
+// The length of each tail of a section. The lengths are lent, since an array handed back would be copied.
+#[derive(Clone, Copy)]
 pub(crate) struct Measured<'a> {
     pub(crate) pairs: Pairs<'a>,
-    pub(crate) lens: [u8; 128],
-    pub(crate) ghost lengths: { Lengths pairs.which (shown pairs.t) (seconds pairs.which (shown pairs.t)) lens } by { lengths_prop pairs.which (shown pairs.t) (seconds pairs.which (shown pairs.t)) lens },
+    pub(crate) lens: &'a [u8; 128],
+    pub(crate) ghost lengths: { Lengths pairs.which (shown pairs.t) (seconds pairs.which (shown pairs.t)) lens.now } by { lengths_prop pairs.which (shown pairs.t) (seconds pairs.which (shown pairs.t)) lens.now },
 }
 
-impl<'a> Measured<'a> {
-    pub(crate) fn of(pairs: &Pairs<'a>) -> Measured<'a>
-        ensures { result.pairs ≡ pairs.now }
+impl Pairs<'_> {
+    pub(crate) fn measure_tails(&self, lens: &mut [u8; 128])
+        requires { lens.old ≡ replicate 128 0 }
+        ensures { Lengths self.now.which (shown self.now.t) (seconds self.now.which (shown self.now.t)) lens.new }
     {
-        let mut lens = [0; 128];
-        for j in 0..pairs.count_seconds() {
-            lens[j] = pairs.tail_length(j) as u8;
-        }
-        Measured {
-            pairs: *pairs,
-            lens,
+        for j in 0..self.count_seconds() {
+            lens[j] = self.tail_length(j) as u8;
         }
     }
+}
 
+impl Measured<'_> {
     // The lines of the set bits of a word, bit 0 standing for from, where their head has h bytes.
     #[tactic(auto, using(rows::proofs::BitList::below_64))]
     fn word_length(&self, word: u64, from: usize, h: usize) -> usize
         requires { (from + 64 ≤ 128) × (h ≤ 24) }
-        ensures { (result ≡ length (bit_lines (blank h self.now.lens) 64 from word)) × (result ≤ 2048) }
+        ensures { (result ≡ length (bit_lines (blank h self.now.lens.now) 64 from word)) × (result ≤ 2048) }
     {
         let mut sum = 0;
         for j in bits(word) {

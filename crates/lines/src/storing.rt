@@ -15,14 +15,14 @@ impl Ends<'_> {
     // The lines of the set bits of a word, bit 0 standing for from.
     #[tactic(auto, using(rows::proofs::BitList::below_64))]
     fn put_bits(&self, out: &mut [u8], k: usize, word: u64, from: usize, head: &[u8]) -> usize
-        requires { (from + 64 ≤ 128) × (8 ≤ length head.now) × (length head.now ≤ 24) × (k + length (bit_lines (line_at head.now self.now.measured.lens self.now.tails) 64 from word) ≤ length out.old) }
-        ensures { Wrote out.old k (bit_lines (line_at head.now self.now.measured.lens self.now.tails) 64 from word) out.new result }
+        requires { (from + 64 ≤ 128) × (8 ≤ length head.now) × (length head.now ≤ 24) × (k + length (bit_lines (line_at head.now self.now.measured.lens.now self.now.tails.now) 64 from word) ≤ length out.old) }
+        ensures { Wrote out.old k (bit_lines (line_at head.now self.now.measured.lens.now self.now.tails.now) 64 from word) out.new result }
     {
         let mut w = k;
         for bit in bits(word) {
             let j = from + bit;
             let n = usize::from(self.measured.lens[j]);
-            w = store_line(out, w, head, &self.tails, 8 * j, n);
+            w = store_line(out, w, head, self.tails, 8 * j, n);
         }
         w
     }

@@ -24,10 +24,10 @@ yielded true l e = (refl, cc)
 yielded false l e = (cc, cc)
 
 module _ (t : Table) (s : List ℕ) (x n : ℕ) where
-  -- The tasks below n hold l, and task n holds m.
-  pub one_more_holds : (l m : ℕ) → l ≡ held_below n t s x → m ≡ adds t x n (place s n) → bit_or l m ≡ held_below (n + 1) t s x
+  -- The tasks below n hold l, and task n adds what it holds.
+  pub one_more_holds : (l m : ℕ) → l ≡ held_below n t s x → m ≡ bit_or l (adds t x n (place s n)) → m ≡ held_below (n + 1) t s x
   unfolding held_below
-  one_more_holds l m e q = rw (add-one n, e, q)
+  one_more_holds l m e q = rw (add-one n, ← e) q
 
   pub one_keeps : n < t.tree.nodes → yields t x n (place s n) ≡ false → None ≡ leaves (may_take t s x) (held_by_others t s x)
   unfolding may_take leaves

@@ -33,6 +33,13 @@ pub enum Step {
 }
 
 impl State {
+    pub const IDLE: u8 = 0;
+
+    pub const OUTSIDE: u8 = 1;
+
+    // Inside access 0; access i is i further.
+    pub const INSIDE: u8 = 2;
+
     #[tactic(auto, unfolding(rules::specs::Machine::fresh))]
     pub fn fresh() -> State
         ensures { result.places ≡ rules.fresh }

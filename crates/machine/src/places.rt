@@ -4,6 +4,7 @@ ghost use Rattle.rules.specs.Machine.{places, place_right, well_formed, held};
 ghost use Rattle.table.specs.Answers.{shown};
 ghost use Rattle.machine.specs.Places.{byte_of, IsPlace};
 
+use crate::State;
 use table::Table;
 
 // What a byte of a state says: the task there is idle, outside, or inside an access.
@@ -20,9 +21,9 @@ impl From<u8> for Place {
     #[tactic(auto, unfolding(crate::specs::Places::byte_of))]
     fn from(byte: u8) -> Place {
         match byte {
-            0 => Place::Idle,
-            1 => Place::Outside,
-            2.. => Place::Inside(byte - 2),
+            State::IDLE => Place::Idle,
+            State::OUTSIDE => Place::Outside,
+            _ => Place::Inside(byte - State::INSIDE),
         }
     }
 }
@@ -35,22 +36,37 @@ impl Place {
         ensures { result ≡ byte_of self }
     {
         match self {
-            Place::Idle => 0,
-            Place::Outside => 1,
-            Place::Inside(i) => 2 + i,
+            Place::Idle => State::IDLE,
+            Place::Outside => State::OUTSIDE,
+            Place::Inside(i) => State::INSIDE + i,
         }
     }
 }
 
-// This may stand at place n.
+// This, which is not idle, may stand at place n. A call of its own, so that the pass over the places, most of which are idle, is a short loop.
+#[inline(never)]
 #[tactic(auto, using(table::proofs::Shown::accesses_shown), unfolding(crate::specs::Places::byte_of, rules::specs::Machine::place_right))]
+fn active_right(t: &Table<'_>, n: usize, place: Place) -> bool
+    requires { byte_of place ≡ 0 → ⊥ }
+    ensures { result ≡ place_right (shown t.now) n (byte_of place) }
+{
+    if !t.is_task(n) {
+        return false;
+    }
+    match place {
+        Place::Inside(i) => i < t.accesses && t.task_of(usize::from(i)) == n,
+        _ => true,
+    }
+}
+
+// This may stand at place n.
+#[tactic(auto, unfolding(crate::specs::Places::byte_of, rules::specs::Machine::place_right))]
 fn place_right(t: &Table<'_>, n: usize, place: Place) -> bool
     ensures { result ≡ place_right (shown t.now) n (byte_of place) }
 {
     match place {
         Place::Idle => true,
-        Place::Outside => t.is_task(n),
-        Place::Inside(i) => t.is_task(n) && i < t.accesses && t.task_of(usize::from(i)) == n,
+        _ => active_right(t, n, place),
     }
 }
 

@@ -6,24 +6,23 @@ ghost use Rattle.matrix.specs.Words.{Marked, Inherited, NotOver, Unprovided};
 
 use crate::nodes::parent_of;
 use crate::records::{access_at, blocking_locks, provider_at};
-use crate::single::one;
 use rows::Rows;
 use table::Checked;
 
 // The locks that each node provides.
 #[tactic(auto, using(table::proofs::Bounds::few_locks_lem))]
-fn provided(t: &Checked<'_>, m: &mut [u64; 128])
+fn provided(t: &Checked<'_>, m: &mut [u32; 128])
     requires { m.old ≡ replicate 128 0 }
     ensures { Marked 128 (shown t.now.table).provider 0 t.now.table.locks m.new }
 {
     for k in 0..usize::from(t.table.locks) {
         let p = provider_at(t, k);
-        m[p] |= one(k);
+        m[p] |= 1 << k;
     }
 }
 
 // Each node takes over its parent's word, from the root down.
-fn inherit(t: &Checked<'_>, m: &mut [u64; 128])
+fn inherit(t: &Checked<'_>, m: &mut [u32; 128])
     ensures { Inherited (shown t.now.table).tree m.old m.new }
 {
     for c in 1..usize::from(t.table.nodes) {
@@ -32,14 +31,14 @@ fn inherit(t: &Checked<'_>, m: &mut [u64; 128])
     }
 }
 
-fn not_over(set: u32, b: u32, over: u64) -> u64
+fn not_over(set: u32, b: u32, over: u32) -> u64
     ensures { NotOver set b over result }
 {
-    u64::from(set & b) & !over
+    u64::from(set & b & !over)
 }
 
 #[tactic(auto, using(table::proofs::Bounds::few_accesses_lem))]
-fn unprovided(t: &Checked<'_>, b: u32, over: &[u64; 128], rows: &mut [u64; 128])
+fn unprovided(t: &Checked<'_>, b: u32, over: &[u32; 128], rows: &mut [u64; 128])
     ensures { Unprovided (shown t.now.table) b over.now t.now.table.accesses rows.old rows.new }
 {
     for i in 0..usize::from(t.table.accesses) {

@@ -2,17 +2,19 @@
 -- Assumes nothing.
 use Prim.Native.Nat.{ℕ, ◌*◌, ◌≤◌, ◌<◌}
 use mathlib.Core.Path.{◌≡◌, refl, sym, ◌∙◌}
-use mathlib.Core.Bool.{true, false}
+use mathlib.Core.Bool.{true, false, not}
 use mathlib.Core.List.{List, ◌++◌}
 use native.Mathlib.Omega.{arith}
+use lib.Dec.{leb}
 use lib.ListN.{length, drop, length-append}
-use borrow.Author.Tests.{le-leb, lt-leb}
+use borrow.Author.Tests.{leb-true, leb-false, le-leb, lt-leb}
 use Rattle.rules.specs.Table.{Table}
 use Rattle.rules.specs.Reading as readings
 use Rattle.rules.specs.Reading.{Is, read}
 use Rattle.rules.specs.Priorities.{has_thresholds, unwalked, walk, thresholds, shown}
 use Rattle.rules.specs.Calls.{writing, refusing, reading, thresholds_call}
 use Rattle.rules.specs.Accepted.{Rooted}
+use Rattle.rules.proofs.Bools.{not_true, not_false}
 use Rattle.rules.proofs.Widths.{first_root}
 use Rattle.std.specs.Prelude.{Ok, Err}
 use Rattle.table.specs.declared.refusals.Fault.{Fault}
@@ -20,6 +22,13 @@ use Rattle.table.specs.Answers.{number, left}
 use Rattle.priorities.specs.Answers.{numbered_call}
 use Rattle.priorities.specs.Numbering.{Shows, Ready, Visited}
 use Rattle.priorities.proofs.ShownWalks.{length_shown}
+
+-- What the test of the room says.
+pub roomy : (n m : ℕ) → not (leb n m) ≡ false → n ≤ m
+roomy n m e = leb-true n m (not_false (leb n m) e)
+
+pub scant : (n m : ℕ) → not (leb n m) ≡ true → m < n
+scant n m e = leb-false n m (not_true (leb n m) e)
 
 -- A table that is refused, and one that is read.
 pub call_refused : (b out : List ℕ) (f : Fault) → read b ≡ readings.Refused (number f) f.place → left (Err f) out ≡ thresholds_call b out

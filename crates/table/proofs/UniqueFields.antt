@@ -1,4 +1,5 @@
--- The contract of each getter, of a fault's number, and of a fault made of its parts leaves one answer: it says which number the answer is.
+-- The contract of each getter, of a kind made of its byte, of a fault's number, and of a fault made of its parts leaves one answer: it says which
+-- the answer is.
 -- Assumes nothing.
 use contract.Lifetimes.{Lfts}
 use denote.Triple.Clauses.{AtExit}
@@ -28,6 +29,10 @@ use Rattle.table.proofs.Table.is_scheduler.Kinds as is-scheduler-kinds
 use Rattle.table.proofs.Table.is_scheduler.Reads as is-scheduler-reads
 use Rattle.table.proofs.Table.is_child.Kinds as is-child-kinds
 use Rattle.table.proofs.Table.is_child.Reads as is-child-reads
+use Rattle.table.proofs.kinds.NodeKindFromU8.from.Kinds as node-kind-kinds
+use Rattle.table.proofs.kinds.NodeKindFromU8.from.Reads as node-kind-reads
+use Rattle.table.proofs.kinds.LockKindFromU8.from.Kinds as lock-from-kinds
+use Rattle.table.proofs.kinds.LockKindFromU8.from.Reads as lock-from-reads
 use Rattle.table.proofs.refusals.Fault.number.Kinds as number-kinds
 use Rattle.table.proofs.refusals.Fault.number.Reads as number-reads
 use Rattle.table.proofs.refusals.Refusal.at.Kinds as at-kinds
@@ -102,3 +107,13 @@ pub at_unique :
     (κs : Lfts 0) (a : Dens κs at-kinds.ps) (r₁ r₂ : (res_t at-kinds.r κs).Denot) (s₁ s₂ : AtExit (ended_of 0 at-kinds.ps at-kinds.r) κs)
     → at-reads.Post κs a r₁ s₁ → at-reads.Post κs a r₂ s₂ → r₁ ≡ r₂
 at_unique κs a r₁ r₂ s₁ s₂ p q = p ∙ sym q
+
+pub node_kind_from_unique :
+    (κs : Lfts 0) (a : Dens κs node-kind-kinds.ps) (r₁ r₂ : (res_t node-kind-kinds.r κs).Denot) (s₁ s₂ : AtExit (ended_of 0 node-kind-kinds.ps node-kind-kinds.r) κs)
+    → node-kind-reads.Post κs a r₁ s₁ → node-kind-reads.Post κs a r₂ s₂ → r₁ ≡ r₂
+node_kind_from_unique κs a r₁ r₂ s₁ s₂ p q = p ∙ sym q
+
+pub lock_kind_from_unique :
+    (κs : Lfts 0) (a : Dens κs lock-from-kinds.ps) (r₁ r₂ : (res_t lock-from-kinds.r κs).Denot) (s₁ s₂ : AtExit (ended_of 0 lock-from-kinds.ps lock-from-kinds.r) κs)
+    → lock-from-reads.Post κs a r₁ s₁ → lock-from-reads.Post κs a r₂ s₂ → r₁ ≡ r₂
+lock_kind_from_unique κs a r₁ r₂ s₁ s₂ p q = p ∙ sym q

@@ -1,6 +1,8 @@
 // The kinds of nodes and of locks. A byte that is no kind's number stands as it is.
 ghost use Rattle.table.specs.Kinds.{IsNodeKind, IsLockKind};
 
+use crate::Table;
+
 #[derive(Clone, Copy, Debug, PartialEq, Eq)]
 pub enum NodeKind {
     Task,
@@ -24,12 +26,12 @@ impl From<u8> for NodeKind {
     #[tactic(auto, unfolding(crate::specs::Kinds::node_kind))]
     fn from(number: u8) -> NodeKind {
         match number {
-            0 => NodeKind::Task,
-            1 => NodeKind::Preemptive,
-            2 => NodeKind::NonPreemptive,
-            3 => NodeKind::Fifo,
-            4 => NodeKind::TimeSliced,
-            5.. => NodeKind::Unlisted(number),
+            Table::TASK => NodeKind::Task,
+            Table::PREEMPTIVE => NodeKind::Preemptive,
+            Table::NON_PREEMPTIVE => NodeKind::NonPreemptive,
+            Table::FIFO => NodeKind::Fifo,
+            Table::TIME_SLICED => NodeKind::TimeSliced,
+            _ => NodeKind::Unlisted(number),
         }
     }
 }
@@ -40,9 +42,9 @@ impl From<u8> for LockKind {
     #[tactic(auto, unfolding(crate::specs::Kinds::lock_kind))]
     fn from(number: u8) -> LockKind {
         match number {
-            0 => LockKind::Blocking,
-            1 => LockKind::Mask,
-            2.. => LockKind::Unlisted(number),
+            Table::BLOCKING => LockKind::Blocking,
+            Table::MASK => LockKind::Mask,
+            _ => LockKind::Unlisted(number),
         }
     }
 }

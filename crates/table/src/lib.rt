@@ -39,6 +39,20 @@ impl<'a> Table<'a> {
 
     pub const MAX_ACCESSES: u8 = 128;
 
+    pub const TASK: u8 = 0;
+
+    pub const PREEMPTIVE: u8 = 1;
+
+    pub const NON_PREEMPTIVE: u8 = 2;
+
+    pub const FIFO: u8 = 3;
+
+    pub const TIME_SLICED: u8 = 4;
+
+    pub const BLOCKING: u8 = 0;
+
+    pub const MASK: u8 = 1;
+
     // The table that the bytes are, or their first fault.
     pub fn read(bytes: &'a [u8]) -> Result<Checked<'a>, Fault>
         ensures table { told result ≡ read bytes.now }

@@ -13,13 +13,12 @@ pub returns-then-count-eq0 : goal.returns-then-count-eq0
 returns-then-count-eq0 c =
     none_wrote _ _ _ (rw c.from-n.ensures at c.count-count.ensures) c.if-count-eq0.true (search rules)
 
-pub put_rows-requires : goal.put_rows-requires
-put_rows-requires c =
+pub put_lines-requires : goal.put_lines-requires
+put_lines-requires c =
     let e = c.from-n.ensures in
-    rw c.of.ensures
     (omega arith, rw (e, one_piece) (lines_left _ _ _ (rw e at c.count-count.ensures) _ c.requires.2 (search rules)))
 
 pub returns : goal.returns
 returns c =
     let e = c.from-n.ensures in
-    section_wrote _ _ _ (rw e at c.count-count.ensures) (search rules) (rw (c.of.ensures, e, one_piece) at c.put_rows.ensures.0)
+    section_wrote _ _ _ (rw e at c.count-count.ensures) (search rules) (rw (e, one_piece) at c.put_lines.ensures.0)

@@ -15,4 +15,7 @@ returns-then-count-eq0 c =
 
 pub returns : goal.returns
 returns c =
-    (section_counted _ _ _ (rw c.from.ensures at c.count-count.ensures) c.digits.ensures.0 (rw c.of.ensures at c.rows_length.ensures.0), omega (arith, c.rows_length.ensures.1))
+    (section_counted _ _ _ (rw c.from.ensures at c.count-count.ensures) c.digits.ensures.0 c.rows_length.ensures.0, omega (arith, c.rows_length.ensures.1))
+
+pub invariant_of-measured : goal.invariant_of-measured
+invariant_of-measured c = record { lengths = c.measure_tails.ensures }

@@ -1,4 +1,3 @@
-use mathlib.Core.Path.{refl}
 use native.Mathlib.Omega.{arith}
 use Rattle.rules.specs.Reading.{table_at}
 use Rattle.table.specs.Answers.{shown}

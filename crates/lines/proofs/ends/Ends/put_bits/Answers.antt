@@ -15,13 +15,13 @@ store_line-w-requires c =
     let l = c.loop-bit in
     let s = a.self.now.measured.lengths.short in
     let e = c.in-Some.ensures.steps in
-    let room = first_room a.from _ _ _ e a.self.now.measured.lens a.head.now a.self.now.tails l.w (length l.out) c.requires.0 a.self.now.made.sized s (omega (arith, l.invariant.place, l.invariant.sized)) in
+    let room = first_room a.from _ _ _ e a.self.now.measured.lens.now a.head.now a.self.now.tails.now l.w (length l.out) c.requires.0 a.self.now.made.sized s (omega (arith, l.invariant.place, l.invariant.sized)) in
     (c.requires.1, c.requires.2, omega (arith, below_64 _ _ _ e), omega (arith, s.few (a.from + c.in-Some.bit)), omega (arith, room))
 
 pub loop-bit-preserved : goal.loop-bit-preserved
 unfolding line_at tail_at
 loop-bit-preserved c =
-    let turn = first_line (line_at c.args.head.now c.args.self.now.measured.lens c.args.self.now.tails) c.args.from _ _ _ c.in-Some.ensures.steps in
+    let turn = first_line (line_at c.args.head.now c.args.self.now.measured.lens.now c.args.self.now.tails.now) c.args.from _ _ _ c.in-Some.ensures.steps in
     writes_piece c.loop-bit.invariant turn (rw c.from-n.ensures at c.store_line-w.ensures)
 
 pub returns : goal.returns

@@ -4,4 +4,4 @@ use Rattle.rows.proofs.Pairs.{StillWrites}
 use Rattle.lines.proofs.ends.Ends.put_bits.Given as goal
 
 abbrev pub invariant-loop-bit : goal.invariant-loop-bit
-invariant-loop-bit l = StillWrites l.initial.out l.k (bit_lines (line_at l.head l.self.measured.lens l.self.tails) 64 l.from l.word) l.out l.w (bit_lines (line_at l.head l.self.measured.lens l.self.tails) 64 l.from l.bit-iterator.left)
+invariant-loop-bit l = StillWrites l.initial.out l.k (bit_lines (line_at l.head l.self.measured.lens.now l.self.tails.now) 64 l.from l.word) l.out l.w (bit_lines (line_at l.head l.self.measured.lens.now l.self.tails.now) 64 l.from l.bit-iterator.left)

@@ -18,7 +18,7 @@ put_bits-w-requires c =
     let m = a.self.now.measured in
     let p = m.pairs in
     let h = c.put_head-h in
-    let whole = row_whole p.which (shown p.t) a.i (get_or p.rows.now.low a.i 0) (get_or p.rows.now.high a.i 0) m.lens (p.within.each a.i (rw accesses_shown c.requires.0)) h.result a.self.now.tails refl h.ensures.0 h.ensures.2 h.ensures.2 m.lengths a.self.now.made in
+    let whole = row_whole p.which (shown p.t) a.i (get_or p.rows.now.low a.i 0) (get_or p.rows.now.high a.i 0) m.lens.now (p.within.each a.i (rw accesses_shown c.requires.0)) h.result a.self.now.tails.now refl h.ensures.0 h.ensures.2 h.ensures.2 m.lengths a.self.now.made in
     let long = length-take-le h.result h.new.head (omega arith) in
     (omega arith, omega (arith, long), omega (arith, long), omega (arith, whole.1, rw length-append at (ap length whole.0)))
 
@@ -28,7 +28,7 @@ put_bits-requires c =
     let m = a.self.now.measured in
     let p = m.pairs in
     let h = c.put_head-h in
-    let whole = row_whole p.which (shown p.t) a.i (get_or p.rows.now.low a.i 0) (get_or p.rows.now.high a.i 0) m.lens (p.within.each a.i (rw accesses_shown c.requires.0)) h.result a.self.now.tails refl h.ensures.0 h.ensures.2 h.ensures.2 m.lengths a.self.now.made in
+    let whole = row_whole p.which (shown p.t) a.i (get_or p.rows.now.low a.i 0) (get_or p.rows.now.high a.i 0) m.lens.now (p.within.each a.i (rw accesses_shown c.requires.0)) h.result a.self.now.tails.now refl h.ensures.0 h.ensures.2 h.ensures.2 m.lengths a.self.now.made in
     let long = length-take-le h.result h.new.head (omega arith) in
     (omega arith, omega (arith, long), omega (arith, long), omega (arith, whole.1, c.put_bits-w.ensures.place, same_room c.put_bits-w.ensures, rw length-append at (ap length whole.0)))
 
@@ -38,5 +38,5 @@ returns c =
     let m = a.self.now.measured in
     let p = m.pairs in
     let h = c.put_head-h in
-    let whole = row_whole p.which (shown p.t) a.i (get_or p.rows.now.low a.i 0) (get_or p.rows.now.high a.i 0) m.lens (p.within.each a.i (rw accesses_shown c.requires.0)) h.result a.self.now.tails refl h.ensures.0 h.ensures.2 h.ensures.2 m.lengths a.self.now.made in
+    let whole = row_whole p.which (shown p.t) a.i (get_or p.rows.now.low a.i 0) (get_or p.rows.now.high a.i 0) m.lens.now (p.within.each a.i (rw accesses_shown c.requires.0)) h.result a.self.now.tails.now refl h.ensures.0 h.ensures.2 h.ensures.2 m.lengths a.self.now.made in
     (rw whole.0 (next c.put_bits-w.ensures c.put_bits.ensures), omega (arith, whole.1, c.put_bits-w.ensures.place, c.put_bits.ensures.place, rw length-append at (ap length whole.0)))
