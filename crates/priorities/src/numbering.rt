@@ -47,8 +47,7 @@ pub(crate) fn number_node(t: &Table<'_>, out: &mut [u8], n: usize, c: usize) -> 
 }
 
 // Each of the three kinds gives its children their numbers in a way of its own; one loop for all would take a closure that changes the counter
-// and the buffer, and be no plainer. Each reads a copy of the table, `own`, which no store into the buffer can change, so that its counts are read
-// once and not again for each child.
+// and the buffer, and be no plainer.
 
 // Kind 1: the children, one after the other.
 #[cycle(walk)]
@@ -57,10 +56,9 @@ fn number_children(t: &Table<'_>, out: &mut [u8], p: usize, c: usize) -> usize
     requires of_kind { (shown t.now).tree.kind p ≡ preemptive }
     ensures { Visited (shown t.now).tree p out.old c out.new result }
 {
-    let own = *t;
     let mut next = c;
-    for j in p + 1..usize::from(own.nodes) {
-        if own.is_child(p, j) {
+    for j in p + 1..usize::from(t.nodes) {
+        if t.is_child(p, j) {
             next = number_node(t, out, j, next);
         }
     }
@@ -73,10 +71,9 @@ fn number_non_preemptive(t: &Table<'_>, out: &mut [u8], p: usize, c: usize) -> u
     requires of_kind { (shown t.now).tree.kind p ≡ non_preemptive }
     ensures { Visited (shown t.now).tree p out.old c out.new result }
 {
-    let own = *t;
     let mut next = c;
-    for j in p + 1..usize::from(own.nodes) {
-        if own.is_child(p, j) {
+    for j in p + 1..usize::from(t.nodes) {
+        if t.is_child(p, j) {
             give(out, j, next, c);
             next += 1;
         }
@@ -90,10 +87,9 @@ fn number_fifo(t: &Table<'_>, out: &mut [u8], p: usize, c: usize) -> usize
     requires of_kind { (shown t.now).tree.kind p ≡ fifo }
     ensures { Visited (shown t.now).tree p out.old c out.new result }
 {
-    let own = *t;
     let mut moved = false;
-    for j in p + 1..usize::from(own.nodes) {
-        if own.is_child(p, j) {
+    for j in p + 1..usize::from(t.nodes) {
+        if t.is_child(p, j) {
             give(out, j, c, c);
             moved = true;
         }
